@@ -1,0 +1,3 @@
+pub mod Amounts
+pub mod Largest
+pub mod Votes

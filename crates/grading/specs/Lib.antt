@@ -1,0 +1,2 @@
+pub mod Assay
+pub mod Soil
