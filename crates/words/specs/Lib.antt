@@ -1,0 +1,6 @@
+pub mod Fault
+pub mod Word
+pub mod Label
+pub mod Token
+pub mod Look
+pub mod Reader
