@@ -8,7 +8,7 @@ use native.Mathlib.Omega.{arith}
 use lib.Dec.{eqb, leb, ltb}
 use lib.ListN.{length, take, drop, length-drop}
 use Rattle.std.proofs.shelf.Lists.{take-all}
-use Rattle.std.proofs.shelf.Tests.{and-parts, eqb-true, leb-true, ltb-true}
+use Rattle.std.proofs.shelf.Tests.{and-from, and-parts, cond-false, cond-true, eq-eqb, eqb-true, leb-true, ltb-true}
 use Rattle.std.specs.declared.option.Option.{Option}
 use Rattle.std.specs.declared.option.Option.the-variants.{Some, None}
 use Rattle.std.specs.declared.result.Result.{Result}
@@ -140,3 +140,77 @@ found-entry {R} decode b w n e v same = subst (λ (f : Found R). Stands decode b
 
 pub found-fault : {R : Type 0} (decode : ℕ → ℕ → Option R) (b : List ℕ) (w n : ℕ) (f : Fault) → Err f ≡ found decode b w n (word-at b w) → FaultAt decode b w n f
 found-fault {R} decode b w n f same = subst (λ (g : Found R). Stands decode b w n g) (sym same) (found-stands decode b w n (word-at b w) refl)
+
+-- ---- what stands there is found
+
+never : false ≡ true → ⊥
+never e = subst (λ (t : Bool). cond t ⊥ (Unit {0})) e tt
+
+module _ {R : Type 0} (decode : ℕ → ℕ → Option R) (b : List ℕ) (w n : ℕ) where
+  found-no-entry : (first : Option Word) → begins first ≡ false → found decode b w n first ≡ Err (misplaced w)
+  found-no-entry None h = refl
+  found-no-entry (Some (Word.Site _ _ _)) h = absurd (never (sym h))
+  found-no-entry (Some (Word.Penalty _)) h = refl
+  found-no-entry (Some (Word.Reading _ _)) h = refl
+  found-no-entry (Some (Word.Label _)) h = absurd (never (sym h))
+  found-no-entry (Some (Word.End _)) h = absurd (never (sym h))
+
+  due-none : (second : Option Word) → follows-site second ≡ false → due w second ≡ (0, w + 1)
+  due-none None h = refl
+  due-none (Some (Word.Site _ _ _)) h = refl
+  due-none (Some (Word.Penalty _)) h = absurd (never (sym h))
+  due-none (Some (Word.Reading _ _)) h = absurd (never (sym h))
+  due-none (Some (Word.Label _)) h = refl
+  due-none (Some (Word.End _)) h = refl
+
+  no-reading-at : (v : ℕ) (at : Option Word) → follows-penalty at ≡ false → reading-at decode v at ≡ Err (misplaced v)
+  no-reading-at v None h = refl
+  no-reading-at v (Some (Word.Site _ _ _)) h = refl
+  no-reading-at v (Some (Word.Penalty _)) h = refl
+  no-reading-at v (Some (Word.Reading _ _)) h = absurd (never (sym h))
+  no-reading-at v (Some (Word.Label _)) h = refl
+  no-reading-at v (Some (Word.End _)) h = refl
+
+  -- a reading does not follow a site word where nothing else may
+  nor-penalty : (second : Option Word) → follows-site second ≡ false → follows-penalty second ≡ false
+  nor-penalty None h = refl
+  nor-penalty (Some (Word.Site _ _ _)) h = refl
+  nor-penalty (Some (Word.Penalty _)) h = refl
+  nor-penalty (Some (Word.Reading _ _)) h = h
+  nor-penalty (Some (Word.Label _)) h = refl
+  nor-penalty (Some (Word.End _)) h = refl
+
+  -- a site whose reading at word v gives r
+  site-found : (x y z p v : ℕ) (r : Result R Fault) → word-at b w ≡ Some (Word.Site x y z) → due w (word-at b (w + 1)) ≡ (p, v)
+      → reading-at decode v (word-at b v) ≡ r → found decode b w n (word-at b w) ≡ complete w x y z p v r
+  site-found x y z p v r here next given =
+      ap (found decode b w n) here ∙ ap (site-from decode b w x y z) next ∙ ap (complete w x y z p v) given
+
+  read-as : (v tag value : ℕ) (r : Option R) → word-at b v ≡ Some (Word.Reading tag value) → decode tag value ≡ r
+      → reading-at decode v (word-at b v) ≡ known v r
+  read-as v tag value r h d = ap (reading-at decode v) h ∙ ap (known v) d
+
+  pub entry-found : (e : Entry R) (v : ℕ) → EntryAt decode b w n e v → found decode b w n (word-at b w) ≡ Ok (e, v)
+  entry-found _ _ (Token.a-label k h wf) = ap (found decode b w n) h ∙ cond-true _ _ _ wf
+  entry-found _ _ (Token.a-site x y z tag value r h i d) =
+      site-found x y z 0 (w + 1) (Ok r) h (ap (due w) i) (read-as (w + 1) tag value (Some r) i d)
+      ∙ ap (λ (v : ℕ). Ok (Token.site (record { word = w; x = x; y = y; z = z; penalty = 0; reading = r }), v)) (omega arith)
+  entry-found _ _ (Token.a-weighted-site x y z p tag value r h i j d) =
+      site-found x y z p (w + 2) (Ok r) h (ap (due w) i) (read-as (w + 2) tag value (Some r) j d)
+      ∙ ap (λ (v : ℕ). Ok (Token.site (record { word = w; x = x; y = y; z = z; penalty = p; reading = r }), v)) (omega arith)
+  entry-found _ _ (Token.the-end h last) =
+      ap (found decode b w n) h ∙ cond-true _ _ _ (and-from _ _ (eq-eqb (w + 1) (words b) last) (eq-eqb n n refl))
+
+  pub fault-found : (f : Fault) → FaultAt decode b w n f → found decode b w n (word-at b w) ≡ Err f
+  fault-found _ (Token.no-entry h) = found-no-entry (word-at b w) h
+  fault-found _ (Token.bad-label k h wf) = ap (found decode b w n) h ∙ cond-false _ _ _ wf
+  fault-found _ (Token.bad-end m h t) = ap (found decode b w n) h ∙ cond-false _ _ _ t
+  fault-found _ (Token.no-reading x y z h i) =
+      site-found x y z 0 (w + 1) (Err (misplaced (w + 1))) h (due-none (word-at b (w + 1)) i)
+      (no-reading-at (w + 1) (word-at b (w + 1)) (nor-penalty (word-at b (w + 1)) i))
+  fault-found _ (Token.strange-reading x y z tag value h i d) =
+      site-found x y z 0 (w + 1) (Err (unknown-reading (w + 1))) h (ap (due w) i) (read-as (w + 1) tag value None i d)
+  fault-found _ (Token.no-weighted-reading x y z p h i j) =
+      site-found x y z p (w + 2) (Err (misplaced (w + 2))) h (ap (due w) i) (no-reading-at (w + 2) (word-at b (w + 2)) j)
+  fault-found _ (Token.strange-weighted-reading x y z p tag value h i j d) =
+      site-found x y z p (w + 2) (Err (unknown-reading (w + 2))) h (ap (due w) i) (read-as (w + 2) tag value None j d)

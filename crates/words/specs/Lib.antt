@@ -4,3 +4,4 @@ pub mod Label
 pub mod Token
 pub mod Look
 pub mod Reader
+pub mod Contents

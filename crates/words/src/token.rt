@@ -1,6 +1,7 @@
 //! What a survey file says, piece by piece.
 ghost use mathlib.Core.Path.{_≡_};
 ghost use Prim.Native.Nat.{_≤_};
+ghost use Rattle.words.specs.Contents.{label-after, label-text};
 ghost use Rattle.words.specs.Token.{entry, is-end, sites-in};
 
 /// One piece of a survey file: a label, a complete site, or the end.
@@ -48,6 +49,17 @@ impl<'a, R> Token<'a, R> {
             Token::End { .. } => true,
             Token::Label { .. } => false,
             Token::Site(_) => false,
+        }
+    }
+
+    /// The last label after the token, where `before` was the last one before it.
+    pub fn label_after(&self, before: Option<&'a [u8]>) -> Option<&'a [u8]>
+        ensures { λ r. ⌜ label-text r ≡ label-after (label-text (before .entry)) (entry (now (self .entry))) ⌝ }
+    {
+        match self {
+            Token::Label { text, .. } => Some(*text),
+            Token::Site(_) => before,
+            Token::End { .. } => before,
         }
     }
 }
