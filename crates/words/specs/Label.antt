@@ -16,6 +16,11 @@ every p (c ∷ cs) = p c && every p cs
 abbrev pub between : ℕ → ℕ → ℕ → Bool
 between low high c = leb low c && leb c high
 
+-- the bytes as a text, where each is a printable character
+abbrev pub Printable : List ℕ → Option (RefT (List ℕ)) → Type 0
+Printable bs (Some text) = (every (between 32 126) bs ≡ true) × (now text ≡ bs)
+Printable bs None = every (between 32 126) bs ≡ false
+
 -- how many words the text of a label of n bytes takes
 abbrev pub label-words : ℕ → ℕ
 label-words n = (n + 3) / 4

@@ -5,3 +5,4 @@ pub mod Token
 pub mod Look
 pub mod Reader
 pub mod Contents
+pub mod Refusal

@@ -29,7 +29,7 @@ pub fn read_contents<'a, G: Grading>(
 {
     let mut reader: Reader<'a> = Reader::new(bytes);
     let mut tokens: Vec<Token<'a, G::Reading>> = Vec::new(heap);
-    let mut label: Option<&'a [u8]> = None;
+    let mut label: Option<&'a str> = None;
     loop {
         let next = match reader.next(grading) {
             Ok(next) => next,

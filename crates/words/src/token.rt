@@ -8,7 +8,7 @@ ghost use Rattle.words.specs.Token.{entry, is-end, sites-in};
 #[derive(Clone, Copy, Debug, PartialEq)]
 pub enum Token<'a, R> {
     /// A label: the number of its label word, and its text as it stands in the file.
-    Label { word: usize, text: &'a [u8] },
+    Label { word: usize, text: &'a str },
     /// A site with its penalty and its reading.
     Site(Site<R>),
     /// The end of the file, with the number of its sites.
@@ -53,7 +53,7 @@ impl<'a, R> Token<'a, R> {
     }
 
     /// The last label after the token, where `before` was the last one before it.
-    pub fn label_after(&self, before: Option<&'a [u8]>) -> Option<&'a [u8]>
+    pub fn label_after(&self, before: Option<&'a str>) -> Option<&'a str>
         ensures { λ r. ⌜ label-text r ≡ label-after (label-text (before .entry)) (entry (now (self .entry))) ⌝ }
     {
         match self {
