@@ -3,6 +3,7 @@ ghost use mathlib.Core.Path.{_≡_};
 ghost use mathlib.Core.Bool.{false};
 ghost use Prim.Native.Nat.{_<_};
 ghost use lib.ListN.{length};
+ghost use lib.Ieee.{le};
 ghost use lib.Ieee.Exact.{HasValue};
 ghost use Rattle.grading.specs.Assay.{admitted-amount, admitted-reading, amount, assay-class, counted, largest-counted, reached, reading-of};
 use crate::grading::Grading;
@@ -59,11 +60,18 @@ pub impl Grading for Assay as AssayGrading {
     }
 }
 
-/// Amounts from 0 to a million are admitted; not-a-number is not, since it compares with nothing.
+/// Amounts from 0 to a million are admitted.
 fn in_range(amount: f64) -> bool
     ensures { λ r. ⌜ r ≡ admitted-amount amount ⌝ }
 {
-    0.0 <= amount && amount <= LARGEST
+    reaches(amount, 0.0) && reaches(LARGEST, amount)
+}
+
+/// Whether an amount is at least a limit. Not-a-number reaches no limit and is none that is reached.
+fn reaches(amount: f64, limit: f64) -> bool
+    ensures { λ r. ⌜ r ≡ le limit amount ⌝ }
+{
+    limit <= amount
 }
 
 /// A measured amount counts as itself. Not-a-number, which a caller may have put into a record,
@@ -95,7 +103,7 @@ fn limits_reached(limits: &[f64], amount: f64) -> u8
 {
     let mut count = 0;
     for limit in limits {
-        if *limit <= amount {
+        if reaches(amount, *limit) {
             count += 1;
         }
     }

@@ -3,5 +3,3 @@
 pub mod assay;
 pub mod grading;
 pub mod soil;
-#[cfg(test)]
-mod tests;

@@ -25,7 +25,10 @@ impl Refusal<'_> {
         let word = self.fault.word;
         let layer = layer_name(self.fault.layer);
         let label = self.label.unwrap_or("-");
-        format!(heap, "refused {number} word {word} layer {layer} label {label}\n")
+        format!(
+            heap,
+            "refused {number} word {word} layer {layer} label {label}\n"
+        )
     }
 }
 

@@ -1,14 +1,15 @@
-use crate::assay;
-use crate::assay::Assay;
-use crate::assay::AssayGrading;
-use crate::assay::ReadingDebug as AssayReadingDebug;
-use crate::assay::ReadingPartialEq as AssayReadingPartialEq;
-use crate::grading::Grading;
-use crate::soil;
-use crate::soil::ReadingDebug as SoilReadingDebug;
-use crate::soil::ReadingPartialEq as SoilReadingPartialEq;
-use crate::soil::Soil;
-use crate::soil::SoilGrading;
+//! The classes, ranges and words of the two gradings.
+use grading::assay;
+use grading::assay::Assay;
+use grading::assay::AssayGrading;
+use grading::assay::ReadingDebug as AssayReadingDebug;
+use grading::assay::ReadingPartialEq as AssayReadingPartialEq;
+use grading::grading::Grading;
+use grading::soil;
+use grading::soil::ReadingDebug as SoilReadingDebug;
+use grading::soil::ReadingPartialEq as SoilReadingPartialEq;
+use grading::soil::Soil;
+use grading::soil::SoilGrading;
 use std::test::*;
 
 fn class_of_largest(amount: f64) -> u8 {

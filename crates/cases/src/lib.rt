@@ -1,0 +1,5 @@
+//! Examples of the rules, tried on the library.
+#[cfg(test)]
+mod gradings;
+#[cfg(test)]
+mod survey_words;
