@@ -14,7 +14,7 @@ use words::token::Token;
 const FIRST_SITE: usize = 4;
 
 /// One line for each token, and at a fault the refusal line behind them.
-pub fn listing(heap: Global, contents: &Contents<Reading>) -> Result<String, AllocError> {
+pub(crate) fn listing(heap: Global, contents: &Contents<Reading>) -> Result<String, AllocError> {
     let mut text = String::new(heap);
     let mut number = FIRST_SITE;
     for token in &contents.tokens {

@@ -6,6 +6,8 @@ use std::io::Read;
 use words::contents::read_contents;
 
 mod lines;
+#[cfg(test)]
+mod tests;
 
 /// One byte more than the longest file: what is longer is refused for its length all the same.
 const ENOUGH: u64 = 32_769;
