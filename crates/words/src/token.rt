@@ -5,7 +5,7 @@ ghost use Rattle.words.specs.Contents.{label-after, label-text};
 ghost use Rattle.words.specs.Token.{entry, is-end, sites-in};
 
 /// One piece of a survey file: a label, a complete site, or the end.
-#[derive(Clone, Copy, Debug, PartialEq)]
+#[derive(Clone, Copy, Debug)]
 pub enum Token<'a, R> {
     /// A label: the number of its label word, and its text as it stands in the file.
     Label { word: usize, text: &'a str },
@@ -16,7 +16,7 @@ pub enum Token<'a, R> {
 }
 
 /// A site as the file gives it. The coordinates and the penalty may be such as no survey takes.
-#[derive(Clone, Copy, Debug, PartialEq)]
+#[derive(Clone, Copy, Debug)]
 pub struct Site<R> {
     /// The number of its site word.
     pub word: usize,

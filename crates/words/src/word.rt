@@ -3,7 +3,7 @@ ghost use mathlib.Core.Path.{_≡_};
 ghost use Rattle.words.specs.Word.{tagged, word-at, word-of};
 
 /// What a word says by itself, by its kind: the top two bits.
-#[derive(Clone, Copy, Debug, PartialEq, Eq)]
+#[derive(Clone, Copy, Debug)]
 pub enum Word {
     /// A site's place.
     Site { x: u16, y: u16, z: u16 },
