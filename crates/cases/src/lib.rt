@@ -2,4 +2,6 @@
 #[cfg(test)]
 mod gradings;
 #[cfg(test)]
+mod measures;
+#[cfg(test)]
 mod survey_words;

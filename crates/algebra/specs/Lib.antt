@@ -1,0 +1,6 @@
+pub mod Integers
+pub mod Lists
+pub mod Rings
+pub mod Signs
+pub mod Sizes
+pub mod Sums

@@ -1,0 +1,14 @@
+pub mod Circumspheres
+pub mod Conflicts
+pub mod Depths
+pub mod LiftedPoints
+pub mod Lifts
+pub mod Limits
+pub mod Offsets
+pub mod PlainLift
+pub mod Points
+pub mod Sides
+pub mod Signs
+pub mod Spots
+pub mod StretchedLift
+pub mod WeightedLift
