@@ -39,7 +39,7 @@ room : (n j : ℕ) → n < 2 ^ 32 → 32 + j ≤ low binary64 + suc (emax binary
 room n j h k = lt-of-lt-of-le (shl-lt 32 j h) (pow-mono k)
 
 -- n and n / 4 are held without rounding
-whole-exact : (n : ℕ) → n < 2 ^ 32 → HasValue (whole n) false n 1
+pub whole-exact : (n : ℕ) → n < 2 ^ 32 → HasValue (whole n) false n 1
 unfolding ofInt
 whole-exact n h = round-exact binary64 false n 1 n 1074 (lit< tt) (omega arith) (room n 1074 h (lit≤ tt)) (sym (mul-one _))
 

@@ -1,8 +1,13 @@
 //! The lines of a listing.
 ghost use mathlib.Core.Path.{_≡_};
+ghost use mathlib.Core.List.{_++_};
+ghost use Prim.Native.Nat.{_^_, _<_};
+ghost use lib.Chars.{codes};
+ghost use lib.ListN.{length};
 ghost use Rattle.std.specs.Of.String.{string-bytes};
 ghost use Rattle.std.specs.Vec.{made};
-ghost use Rattle.listing.specs.Lines.{end-line, label-line, place-text, site-line};
+ghost use Rattle.listing.specs.Lines.{end-line, label-line, listing-text, place-text, reading-text, site-line, token-line, token-lines};
+use crate::amount::amount_text;
 use grading::assay::Reading;
 use std::alloc::AllocError;
 use std::alloc::Global;
@@ -14,29 +19,41 @@ use words::token::Token;
 const FIRST_SITE: usize = 4;
 
 /// One line for each token, and at a fault the refusal line behind them.
-pub(crate) fn listing(heap: Global, contents: &Contents<Reading>) -> Result<String, AllocError> {
+pub(crate) fn listing(heap: Global, contents: &Contents<Reading>) -> Result<String, AllocError>
+    ensures { λ r. ⌜ made r (λ s. string-bytes s ≡ listing-text (now (contents .entry))) ⌝ }
+{
+    let mut text = token_lines(heap, contents.tokens.as_slice())?;
+    if let Some(refusal) = contents.refusal {
+        let line = refusal.line(heap)?;
+        text.push_str(line.as_str())?;
+    }
+    Ok(text)
+}
+
+fn token_lines(heap: Global, tokens: &[Token<Reading>]) -> Result<String, AllocError>
+    requires { ⌜ length (now tokens) < 2 ^ 63 ⌝ }
+    ensures { λ r. ⌜ made r (λ s. string-bytes s ≡ token-lines 4 (now (tokens .entry))) ⌝ }
+{
     let mut text = String::new(heap);
     let mut number = FIRST_SITE;
-    for token in &contents.tokens {
-        text.push_str(token_line(heap, number, token)?.as_str())?;
-        number = number.saturating_add(token.sites());
-    }
-    if let Some(refusal) = contents.refusal {
-        text.push_str(refusal.line(heap)?.as_str())?;
+    for token in tokens {
+        let line = token_line(heap, number, token)?;
+        text.push_str(line.as_str())?;
+        number += token.sites();
     }
     Ok(text)
 }
 
 /// The line of one token; `number` is the number that the next site gets.
-fn token_line(heap: Global, number: usize, token: &Token<Reading>) -> Result<String, AllocError> {
+fn token_line(heap: Global, number: usize, token: &Token<Reading>) -> Result<String, AllocError>
+    ensures { λ r. ⌜ made r (λ s. string-bytes s ≡ token-line number (now (token .entry))) ⌝ }
+{
     match token {
         Token::Label { text, .. } => label_line(heap, *text),
-        Token::Site(site) => site_line(
-            heap,
-            number,
-            site,
-            reading_text(heap, &site.reading)?.as_str(),
-        ),
+        Token::Site(site) => {
+            let reading = reading_text(heap, &site.reading)?;
+            site_line(heap, number, site, reading.as_str())
+        }
         Token::End { sites } => end_line(heap, *sites),
     }
 }
@@ -76,11 +93,31 @@ fn end_line(heap: Global, sites: u32) -> Result<String, AllocError>
     format!(heap, "end {sites}\n")
 }
 
-/// A reading in words, its amount in decimals: a quarter has at most two places.
-fn reading_text(heap: Global, reading: &Reading) -> Result<String, AllocError> {
+/// A reading in words.
+fn reading_text(heap: Global, reading: &Reading) -> Result<String, AllocError>
+    ensures { λ r. ⌜ made r (λ s. string-bytes s ≡ reading-text (now (reading .entry))) ⌝ }
+{
     match reading {
-        Reading::Measured(amount) => format!(heap, "measured {amount}"),
-        Reading::Below(limit) => format!(heap, "below {limit}"),
+        Reading::Measured(amount) => {
+            let amount = amount_text(heap, *amount)?;
+            measured_text(heap, amount.as_str())
+        }
+        Reading::Below(limit) => {
+            let limit = amount_text(heap, *limit)?;
+            below_text(heap, limit.as_str())
+        }
         Reading::Missing => String::from_str(heap, "missing"),
     }
+}
+
+fn measured_text(heap: Global, amount: &str) -> Result<String, AllocError>
+    ensures { λ r. ⌜ made r (λ s. string-bytes s ≡ codes "measured " ++ now (amount .entry)) ⌝ }
+{
+    format!(heap, "measured {amount}")
+}
+
+fn below_text(heap: Global, limit: &str) -> Result<String, AllocError>
+    ensures { λ r. ⌜ made r (λ s. string-bytes s ≡ codes "below " ++ now (limit .entry)) ⌝ }
+{
+    format!(heap, "below {limit}")
 }

@@ -5,6 +5,7 @@ use std::error::AnyError;
 use std::io::Read;
 use words::contents::read_contents;
 
+mod amount;
 mod lines;
 #[cfg(test)]
 mod tests;
