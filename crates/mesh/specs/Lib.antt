@@ -1,0 +1,13 @@
+pub mod Added
+pub mod Adding
+pub mod Cases
+pub mod Orientations
+pub mod Owners
+pub mod Past
+pub mod Records
+pub mod Shells
+pub mod Soundness
+pub mod Spaces
+pub mod Statements
+pub mod Surveys
+pub mod Tetrahedra
