@@ -51,11 +51,11 @@ on-grid p = three _ _ _ (ranged (p .x)) (ranged (p .y)) (ranged (p .z))
 same-place : (p q : Spot) → Decided (SamePlace p q)
 same-place p q = three _ _ _ (cases-eq (p .x) (q .x)) (cases-eq (p .y) (q .y)) (cases-eq (p .z) (q .z))
 
-untaken : {R : Type 0} (p : Spot) (as : List (Site R)) → Decided (All (λ a. ¬ SamePlace p (a .place)) as)
+untaken : {R : Type 0} (p : Spot) (xs : List (Site R)) → Decided (All (λ a. ¬ SamePlace p (a .place)) xs)
 untaken p [] = inl tt
-untaken p (a ∷ as) = elim (same-place p (a .place)) [
+untaken p (a ∷ xs) = elim (same-place p (a .place)) [
   | inl e ↦ inr (λ h. h .0 e)
-  | inr e ↦ elim (untaken p as) [ inl k ↦ inl (e, k) | inr k ↦ inr (λ h. k (h .1)) ]
+  | inr e ↦ elim (untaken p xs) [ inl k ↦ inl (e, k) | inr k ↦ inr (λ h. k (h .1)) ]
 ]
 
 -- ---- numbers below a bound
