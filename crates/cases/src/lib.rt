@@ -5,3 +5,5 @@ mod gradings;
 mod measures;
 #[cfg(test)]
 mod survey_words;
+#[cfg(test)]
+mod surveys;
