@@ -5,10 +5,10 @@ ghost use Rattle.survey.specs.Corners.{is-corner};
 use crate::record::PointRecord;
 
 /// Points below this number are corners, and the others are sites.
-pub const FIRST_SITE: u16 = 4;
+pub(crate) const FIRST_SITE: u16 = 4;
 
 /// Points 0 to 3, with which a point table begins.
-pub const CORNERS: [PointRecord; 4] = [
+pub(crate) const CORNERS: [PointRecord; 4] = [
     PointRecord {
         x: 0,
         y: 0,

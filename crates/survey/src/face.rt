@@ -9,7 +9,7 @@ use mesh::record::TetRecord;
 
 /// Three point numbers, in the order that they have around a tetrahedron.
 #[derive(Clone, Copy, Debug, PartialEq, Eq)]
-pub struct Face {
+pub(crate) struct Face {
     pub x: u16,
     pub y: u16,
     pub z: u16,
@@ -17,7 +17,7 @@ pub struct Face {
 
 impl Face {
     /// Face `i` of a record: the points other than point `i`. A number past 3 counts as 3.
-    pub fn of(tet: &TetRecord, i: usize) -> Face
+    pub(crate) fn of(tet: &TetRecord, i: usize) -> Face
         ensures { λ r. ⌜ triple-of r ≡ face-at (now (tet .entry)) i ⌝ }
     {
         let [a, b, c, d] = tet.points;
@@ -30,28 +30,28 @@ impl Face {
     }
 
     /// Whether the three points are corners.
-    pub fn is_outer(&self) -> bool
+    pub(crate) fn is_outer(&self) -> bool
         ensures { λ r. ⌜ r ≡ is-outer (triple-of (now (self .entry))) ⌝ }
     {
         self.x < FIRST_SITE && self.y < FIRST_SITE && self.z < FIRST_SITE
     }
 
     /// Whether the point is one of the three.
-    pub fn has_point(&self, point: u16) -> bool
+    pub(crate) fn has_point(&self, point: u16) -> bool
         ensures { λ r. ⌜ r ≡ isOn point (triple-of (now (self .entry))) ⌝ }
     {
         point == self.x || point == self.y || point == self.z
     }
 
     /// Whether the record has the three points, in whatever order.
-    pub fn belongs_to(&self, tet: &TetRecord) -> bool
+    pub(crate) fn belongs_to(&self, tet: &TetRecord) -> bool
         ensures { λ r. ⌜ r ≡ has-face (triple-of (now (self .entry))) (tet-of (now (tet .entry))) ⌝ }
     {
         has_point(tet, self.x) && has_point(tet, self.y) && has_point(tet, self.z)
     }
 
     /// The slot of the record's first point that is not one of the three, and 3 where there is none.
-    pub fn opposite(&self, tet: &TetRecord) -> usize
+    pub(crate) fn opposite(&self, tet: &TetRecord) -> usize
         ensures is { λ r. ⌜ r ≡ oppositeSlot (tet-of (now (tet .entry))) (triple-of (now (self .entry))) ⌝ }
         ensures slot { λ r. ⌜ r < 4 ⌝ }
     {
@@ -68,7 +68,7 @@ impl Face {
 }
 
 /// Whether the point is one of the record's.
-pub fn has_point(tet: &TetRecord, point: u16) -> bool
+pub(crate) fn has_point(tet: &TetRecord, point: u16) -> bool
     ensures { λ r. ⌜ r ≡ has point (tet-of (now (tet .entry))) ⌝ }
 {
     point == tet.points[0]

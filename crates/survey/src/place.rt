@@ -21,7 +21,7 @@ fn in_range(coordinate: u16) -> bool
 }
 
 /// Whether each coordinate is from 1 to 800.
-pub fn is_on_grid(x: u16, y: u16, z: u16) -> bool
+pub(crate) fn is_on_grid(x: u16, y: u16, z: u16) -> bool
     ensures is { λ r. ⌜ r ≡ on-grid x y z ⌝ }
     ensures tells { λ r. ⌜ Decides r (OnGrid (bare x y z)) ⌝ }
 {
@@ -29,7 +29,7 @@ pub fn is_on_grid(x: u16, y: u16, z: u16) -> bool
 }
 
 /// Whether the penalty is at most 1,000,000.
-pub fn is_light(penalty: u32) -> bool
+pub(crate) fn is_light(penalty: u32) -> bool
     ensures is { λ r. ⌜ r ≡ light penalty ⌝ }
     ensures tells { λ r. ⌜ Decides r (Light penalty) ⌝ }
 {
