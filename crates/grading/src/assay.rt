@@ -1,6 +1,7 @@
 //! Chemical assay: amounts of a substance in the ground, in milligrams per kilogram.
 ghost use Rattle.std.specs.Prelude.{◌≡◌, ◌<◌, false, length};
 ghost use Rattle.std.specs.Float.Ieee.{le};
+ghost use Rattle.std.specs.Float.{float_max};
 ghost use Rattle.std.specs.Float.Ieee.Exact.{HasValue};
 ghost use Rattle.grading.specs.Assay.{admitted_amount, admitted_reading, amount, assay_class, counted, largest_counted, reached, reading_of};
 ghost use Rattle.grading.specs.Largest.{front_swap, middle_swap, back_swap};
@@ -98,10 +99,18 @@ fn counts_as(reading: &Reading) -> f64
 fn largest(a: &Reading, b: &Reading, c: &Reading, d: &Reading) -> f64
     ensures { result ≡ largest_counted a.now b.now c.now d.now }
 {
-    counts_as(a)
-        .max(counts_as(b))
-        .max(counts_as(c))
-        .max(counts_as(d))
+    larger(
+        larger(larger(counts_as(a), counts_as(b)), counts_as(c)),
+        counts_as(d),
+    )
+}
+
+/// The larger of two values. Of two that compare equal, as 0 and -0, it is the first, where `max` may
+/// answer either.
+fn larger(a: f64, b: f64) -> f64
+    ensures { result ≡ float_max a b }
+{
+    if b <= a || b.is_nan() { a } else { b }
 }
 
 /// How many of the limits an amount reaches.

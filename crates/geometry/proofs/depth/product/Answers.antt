@@ -3,8 +3,8 @@ use Rattle.std.proofs.lemmas.Int.{to_z-of_z, to_z_pos}
 use Rattle.geometry.proofs.DepthFits.{product_fits}
 use Rattle.geometry.proofs.depth.product.Goals as goal
 
-pub overflow-mul-result : goal.overflow-mul-result
-overflow-mul-result c =
+pub overflow_mul-result : goal.overflow_mul-result
+overflow_mul-result c =
     let a = c.args.a.now in let e = c.args.e.now in let fs = c.ranges.side in
     let k = product_fits c.args.side a.lift e.lift c.requires a.low e.low in
     let ha = to_z_pos w64 a.lift (omega arith) in let he = to_z_pos w64 e.lift (omega arith) in

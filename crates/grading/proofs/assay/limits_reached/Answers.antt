@@ -12,12 +12,12 @@ loop-limit-preserved c =
     let told = c.reaches.ensures in
     elim c.if-reaches.branch [
       | then-reaches w ↦ (
-        omega (arith, w.count_is),
-        w.count_is ∙ ap (λ n. n + 1) inv.1 ∙ sym (count_by_more_yes (λ l. le l c.args.amount) _ _ nan c.loop-limit-test.true (sym told ∙ w.if-reaches.true)),
+        omega (arith, w.count-is),
+        w.count-is ∙ ap (λ n. n + 1) inv.1 ∙ sym (count_by_more_yes (λ l. le l c.args.amount) _ _ nan c.loop-limit-test.true (sym told ∙ w.if-reaches.true)),
       )
       | else-reaches w ↦ (
-        omega (arith, w.count_is),
-        w.count_is ∙ inv.1 ∙ sym (count_by_more_no (λ l. le l c.args.amount) _ _ nan c.loop-limit-test.true (sym told ∙ w.if-reaches.false)),
+        omega (arith, w.count-is),
+        w.count-is ∙ inv.1 ∙ sym (count_by_more_no (λ l. le l c.args.amount) _ _ nan c.loop-limit-test.true (sym told ∙ w.if-reaches.false)),
       )
     ]
 

@@ -12,12 +12,12 @@ loop-other-preserved c =
     let on : c.loop-other.other-index < length c.args.codes.now = omega arith in
     elim c.if-other-code.branch [
       | then-other-code w ↦ (
-        omega (arith, w.count_is),
-        w.count_is ∙ ap (λ n. n + 1) inv.1 ∙ sym (count_by_more_yes (λ m. eqb m k) _ _ 0 on (eq-eqb _ k w.if-other-code.true)),
+        omega (arith, w.count-is),
+        w.count-is ∙ ap (λ n. n + 1) inv.1 ∙ sym (count_by_more_yes (λ m. eqb m k) _ _ 0 on (eq-eqb _ k w.if-other-code.true)),
       )
       | else-other-code w ↦ (
-        omega (arith, w.count_is),
-        w.count_is ∙ inv.1 ∙ sym (count_by_more_no (λ m. eqb m k) _ _ 0 on (ne_eqb _ k w.if-other-code.false)),
+        omega (arith, w.count-is),
+        w.count-is ∙ inv.1 ∙ sym (count_by_more_no (λ m. eqb m k) _ _ 0 on (ne_eqb _ k w.if-other-code.false)),
       )
     ]
 

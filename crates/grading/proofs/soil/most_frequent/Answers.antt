@@ -2,7 +2,7 @@ use Rattle.std.proofs.Common.{◌≡◌, ◌-◌, ◌<◌, ◌≤◌, sym, ap, �
 use Rattle.grading.specs.Soil.{Leads, votes, winner}
 use Rattle.grading.specs.Votes.{winner_leads, winner_takes, winner_stays}
 use Rattle.grading.proofs.soil.most_frequent.Goals as goal
-use Rattle.grading.proofs.soil.most_frequent.Goals.{then-count-of, else-count-of}
+use Rattle.grading.proofs.soil.most_frequent.Goals.{then-count_of, else-count_of}
 
 pub returns : goal.returns
 returns c =
@@ -13,9 +13,9 @@ returns c =
 pub loop-code-preserved : goal.loop-code-preserved
 loop-code-preserved c =
     let codes = c.args.codes.now in
-    let old = c.count-of.ensures in
-    let new = c.count-of-in-loop-code.ensures in
-    elim c.if-count-of.branch [
-      | then-count-of w ↦ w.leader-is ∙ winner_takes _ _ codes c.loop-code.auto.code c.loop-code.invariant (omega (arith, old, new, w.if-count-of.true))
-      | else-count-of w ↦ w.leader-is ∙ winner_stays _ _ codes c.loop-code.auto.code c.loop-code.invariant (omega (arith, old, new, w.if-count-of.false))
+    let old = c.count_of.ensures in
+    let new = c.count_of-in-loop-code.ensures in
+    elim c.if-count_of.branch [
+      | then-count_of w ↦ w.leader-is ∙ winner_takes _ _ codes c.loop-code.auto.code c.loop-code.invariant (omega (arith, old, new, w.if-count_of.true))
+      | else-count_of w ↦ w.leader-is ∙ winner_stays _ _ codes c.loop-code.auto.code c.loop-code.invariant (omega (arith, old, new, w.if-count_of.false))
     ]

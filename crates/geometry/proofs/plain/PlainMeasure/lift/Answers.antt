@@ -3,12 +3,12 @@ use Rattle.geometry.specs.Points.{spot}
 use Rattle.geometry.specs.Measures.{plain_low}
 use Rattle.geometry.proofs.plain.PlainMeasure.lift.Goals as goal
 
-pub overflow-add-result : goal.overflow-add-result
-overflow-add-result c =
+pub overflow_add-result : goal.overflow_add-result
+overflow_add-result c =
     let p = c.args.p.now in
     omega (arith, plain_low (spot p) p.near)
 
-pub overflow-add-result-2 : goal.overflow-add-result-2
-overflow-add-result-2 c =
+pub overflow_add-result-2 : goal.overflow_add-result-2
+overflow_add-result-2 c =
     let p = c.args.p.now in
     omega (arith, plain_low (spot p) p.near)

@@ -3,7 +3,7 @@ use Rattle.geometry.specs.Points.{spot}
 use Rattle.geometry.specs.Measures.{plain_low}
 use Rattle.geometry.proofs.weighted.WeightedMeasure.lift.Goals as goal
 
-pub overflow-add-result : goal.overflow-add-result
-overflow-add-result c =
+pub overflow_add-result : goal.overflow_add-result
+overflow_add-result c =
     let p = c.args.p.now in
     omega (arith, plain_low (spot p) p.near)
