@@ -1,19 +1,30 @@
--- Tests of all elements, and the edges that faces share.
-use Rattle.std.proofs.Common.{◌≡◌, ℕ, zero, suc, ◌+◌, ◌*◌, ◌/◌, ◌%◌, ◌<◌, ◌≤◌, Bool, true, false, not, ◌||◌, eqb, List, [], ◌∷◌, ◌++◌, map, length, get_or, take, drop, count_by, refl, arith}
+-- Tests of all numbers and of all elements, and the edges that faces share.
+use Rattle.std.proofs.Common.{◌≡◌, ℕ, zero, suc, ◌+◌, ◌*◌, ◌/◌, ◌%◌, ◌<◌, ◌≤◌, Bool, true, false, not, ◌||◌, eqb, List, [], ◌∷◌, ◌++◌, map, length, get_or, take, drop, count_by, refl, sym, ap, ◌∙◌, inl, inr, arith}
 use Rattle.std.proofs.lemmas.List.{take_more}
 use Rattle.std.proofs.lemmas.List.Sums.{prefix_len-drop_yes, prefix_len-drop_no, prefix_len-drop_all}
-use Rattle.std.proofs.lemmas.Bool.{and_from, and_parts, and_left, and_right}
+use Rattle.std.proofs.lemmas.Bool.{cases_eq, and_from, and_parts, and_left, and_right}
 use Rattle.std.specs.List.{prefix_len}
 use Rattle.algebra.specs.Lists.{all}
 use Rattle.mesh.specs.Added.{edge_on}
-use Rattle.mesh.specs.Records.{row, face_at}
+use Rattle.mesh.specs.Records.{every, row, face_at}
+use Rattle.mesh.proofs.Ranks.{every_more}
 use Rattle.mesh.specs.Tetrahedra.{Triple}
 use Rattle.mesh.specs.declared.record.TetRecord.{TetRecord}
 use Rattle.survey.specs.Cavity.{face_number, blank_face}
 use Rattle.survey.specs.Edges.{has_edge, partner}
 use Rattle.survey.specs.declared.cavity.shell.ShellFace.{ShellFace}
 
--- ---- elements that all pass
+-- ---- numbers and elements that all pass
+
+pub every_yes : (p : ℕ → Bool) (k : ℕ) → every p k ≡ true → p k ≡ true → every p (k + 1) ≡ true
+every_yes p k h e = every_more p k ∙ and_from (p k) (every p k) e h
+
+pub every_fails : (p : ℕ → Bool) (n k : ℕ) → k < n → p k ≡ false → every p n ≡ false
+every_fails p zero k l e = absurd (omega arith)
+every_fails p (suc n) k l e = elim (cases_eq k n) [
+  | inl i ↦ and_left (p n) (every p n) (ap p (sym i) ∙ e)
+  | inr i ↦ and_right (p n) (every p n) (every_fails p n k (omega arith) e)
+]
 
 pub all_yes : {X : Type 0} (p : X → Bool) (xs : List X) (i : ℕ) (d : X) → i < length xs → all p (take i xs) ≡ true → p (get_or xs i d) ≡ true → all p (take (i + 1) xs) ≡ true
 all_yes p xs i d l h e = rw (take_more xs i d l) (go (take i xs) h)

@@ -7,4 +7,4 @@ use Rattle.survey.proofs.conflict.conflicts_with.Goals as goal
 pub returns : goal.returns
 returns g c =
     c.conflicts.ensures
-    ∙ conflict_read c.args.points.now (tet_of c.args.tet.now) (g.M.Measure.lifts c.args.measure.now) (spot c.args.site.now) c.point-of-a.ensures c.point-of-b.ensures c.point-of-c.ensures c.point-of-d.ensures
+    ∙ conflict_read c.args.points.now (tet_of c.args.tet.now) (g.M.Measure.lifts c.args.measure.now) (spot c.args.site.now) c.point_of-a.ensures c.point_of-b.ensures c.point_of-c.ensures c.point_of-d.ensures

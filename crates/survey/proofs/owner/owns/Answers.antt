@@ -13,10 +13,10 @@ abbrev test : List PointRecord → TetRecord → List Point → ℕ → Bool
 test ps t gs i = within (map spot_of ps) (map spot gs) (tet_of t) (slot_at i)
 
 pub loop-slot-preserved : goal.loop-slot-preserved
-loop-slot-preserved c = every_passes (test c.args.points.now c.args.tet.now c.args.steps.now) c.loop-slot.slot c.loop-slot.invariant c.if-not-is-within.ensures
+loop-slot-preserved c = every_passes (test c.args.points.now c.args.tet.now c.args.steps.now) c.loop-slot.slot c.loop-slot.invariant c.if-not-is_within.ensures
 
-pub returns-then-not-is-within : goal.returns-then-not-is-within
-returns-then-not-is-within c = every_fails (test c.args.points.now c.args.tet.now c.args.steps.now) 4 c.loop-slot.slot c.loop-slot-test.true c.if-not-is-within.ensures
+pub returns-then-not-is_within : goal.returns-then-not-is_within
+returns-then-not-is_within c = every_fails (test c.args.points.now c.args.tet.now c.args.steps.now) 4 c.loop-slot.slot c.loop-slot-test.true c.if-not-is_within.ensures
 
 pub returns : goal.returns
 returns c = every_passed (test c.args.points.now c.args.tet.now c.args.steps.now) 4 c.loop-slot.slot c.loop-slot.auto.slot-end c.loop-slot-test.false c.loop-slot.invariant

@@ -8,7 +8,7 @@ use Rattle.survey.proofs.owner.side_with.Goals as goal
 
 pub returns : goal.returns
 returns c =
-    let f : SFits w64 c.side.result = record { sfits = c.side.type-inv } in
+    let f : SFits w64 c.side.result = record { sfits = c.side.type_inv } in
     simp to_z-of_z
     (c.side.ensures.is
     ∙ side_replaced (map spot_of c.args.points.now) (tet_of c.args.tet.now) (spot c.args.g.now) c.args.slot c.requires.low c.replaced-a.ensures c.replaced-b.ensures c.replaced-c.ensures c.replaced-d.ensures)

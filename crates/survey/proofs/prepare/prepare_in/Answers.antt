@@ -9,24 +9,24 @@ use Rattle.survey.specs.Tables.{spot_of}
 use Rattle.survey.proofs.Preparing.{filled, fitting, fewer, refused_same}
 use Rattle.survey.proofs.prepare.prepare_in.Goals as goal
 
-pub returns-in-err-totals : goal.returns-in-err-totals
-returns-in-err-totals g c =
-    let p = err_from_is_err_and c.from-residual.result c.from-residual.ensures.1 in
-    let told = c.in-err-totals.ensures in
+pub returns-in_err-totals : goal.returns-in_err-totals
+returns-in_err-totals g c =
+    let p = err_from_is_err_and c.from_residual.result c.from_residual.ensures.1 in
+    let told = c.in_err-totals.ensures in
     let us = c.args.used.now in
-    let fs = c.ask-hole.new.dropped in
+    let fs = c.ask_hole.new.dropped in
     let conflict : Tet → Bool = conflicting (map spot_of c.args.points.now) (g.M.Measure.lifts c.args.measure.now) (spot c.args.site.now) in
     let ready : Ready us fs = record { few = omega (arith, c.requires.tets, c.requires.room); flags = omega (arith, c.requires.arrays); named = c.requires.tets.1 } in
-    rw (p.1, p.2) (refused_same conflict us fs told.flagged ready (length c.args.points.now) c.args.room c.in-err-totals.field-0.0 told.asked.0 told.asked.1 told.asked.2)
+    rw (p.1, p.2) (refused_same conflict us fs told.flagged ready (length c.args.points.now) c.args.room c.in_err-totals.field-0.0 told.asked.0 told.asked.1 told.asked.2)
 
 pub fill-requires : goal.fill-requires
 fill-requires g c =
-    let told = c.in-ok-totals.ensures in
+    let told = c.in_ok-totals.ensures in
     let us = c.args.used.now in
-    let fs = c.ask-hole.new.dropped in
-    let ss = c.ask-hole.new.shell in
-    let shell = c.in-ok-totals.totals.shell in
-    let kept = c.in-ok-totals.totals.kept in
+    let fs = c.ask_hole.new.dropped in
+    let ss = c.ask_hole.new.shell in
+    let shell = c.in_ok-totals.totals.shell in
+    let kept = c.in_ok-totals.totals.kept in
     let n = length c.args.points.now in
     let conflict : Tet → Bool = conflicting (map spot_of c.args.points.now) (g.M.Measure.lifts c.args.measure.now) (spot c.args.site.now) in
     let ready : Ready us fs = record { few = omega (arith, c.requires.tets, c.requires.room); flags = omega (arith, c.requires.arrays); named = c.requires.tets.1 } in
@@ -47,13 +47,13 @@ fill-requires g c =
       omega (arith, long, few, fits, c.requires.room),
     )
 
-pub overflow-add-result : goal.overflow-add-result
-overflow-add-result g c =
-    let told = c.in-ok-totals.ensures in
+pub overflow_add-result : goal.overflow_add-result
+overflow_add-result g c =
+    let told = c.in_ok-totals.ensures in
     let us = c.args.used.now in
-    let fs = c.ask-hole.new.dropped in
-    let shell = c.in-ok-totals.totals.shell in
-    let kept = c.in-ok-totals.totals.kept in
+    let fs = c.ask_hole.new.dropped in
+    let shell = c.in_ok-totals.totals.shell in
+    let kept = c.in_ok-totals.totals.kept in
     let conflict : Tet → Bool = conflicting (map spot_of c.args.points.now) (g.M.Measure.lifts c.args.measure.now) (spot c.args.site.now) in
     let ready : Ready us fs = record { few = omega (arith, c.requires.tets, c.requires.room); flags = omega (arith, c.requires.arrays); named = c.requires.tets.1 } in
     let fits = fitting conflict us fs told.flagged ready (length c.args.points.now) c.args.room kept shell told.asked.0 told.asked.2 told.asked.3 in
@@ -62,12 +62,12 @@ overflow-add-result g c =
 
 pub returns : goal.returns
 returns g c =
-    let told = c.in-ok-totals.ensures in
+    let told = c.in_ok-totals.ensures in
     let us = c.args.used.now in
-    let fs = c.ask-hole.new.dropped in
-    let ss = c.ask-hole.new.shell in
-    let shell = c.in-ok-totals.totals.shell in
-    let kept = c.in-ok-totals.totals.kept in
+    let fs = c.ask_hole.new.dropped in
+    let ss = c.ask_hole.new.shell in
+    let shell = c.in_ok-totals.totals.shell in
+    let kept = c.in_ok-totals.totals.kept in
     let n = length c.args.points.now in
     let conflict : Tet → Bool = conflicting (map spot_of c.args.points.now) (g.M.Measure.lifts c.args.measure.now) (spot c.args.site.now) in
     let ready : Ready us fs = record { few = omega (arith, c.requires.tets, c.requires.room); flags = omega (arith, c.requires.arrays); named = c.requires.tets.1 } in

@@ -9,7 +9,7 @@ abbrev test : List PointRecord → ℕ → Bool
 test ps k = whole_point k (get_or ps k blank_point)
 
 pub loop-k-preserved : goal.loop-k-preserved
-loop-k-preserved c = every_passes (test c.args.points.now) c.loop-k.k c.loop-k.invariant c.if-not-is-whole-point.ensures
+loop-k-preserved c = every_passes (test c.args.points.now) c.loop-k.k c.loop-k.invariant c.if-not-is_whole_point.ensures
 
-pub returns-then-not-is-whole-point : goal.returns-then-not-is-whole-point
-returns-then-not-is-whole-point c = every_fails (test c.args.points.now) (length c.args.points.now) c.loop-k.k c.loop-k-test.true c.if-not-is-whole-point.ensures
+pub returns-then-not-is_whole_point : goal.returns-then-not-is_whole_point
+returns-then-not-is_whole_point c = every_fails (test c.args.points.now) (length c.args.points.now) c.loop-k.k c.loop-k-test.true c.if-not-is_whole_point.ensures

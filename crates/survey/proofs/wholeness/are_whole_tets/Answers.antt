@@ -10,7 +10,7 @@ abbrev test : List PointRecord → List TetRecord → ℕ → Bool
 test ps ts = whole_tet (length ps) (map spot_of ps) ts
 
 pub loop-k-preserved : goal.loop-k-preserved
-loop-k-preserved c = every_passes (test c.args.points.now c.args.tets.now) c.loop-k.k c.loop-k.invariant c.if-not-is-whole-tet.ensures
+loop-k-preserved c = every_passes (test c.args.points.now c.args.tets.now) c.loop-k.k c.loop-k.invariant c.if-not-is_whole_tet.ensures
 
-pub returns-then-not-is-whole-tet : goal.returns-then-not-is-whole-tet
-returns-then-not-is-whole-tet c = every_fails (test c.args.points.now c.args.tets.now) (length c.args.tets.now) c.loop-k.k c.loop-k-test.true c.if-not-is-whole-tet.ensures
+pub returns-then-not-is_whole_tet : goal.returns-then-not-is_whole_tet
+returns-then-not-is_whole_tet c = every_fails (test c.args.points.now c.args.tets.now) (length c.args.tets.now) c.loop-k.k c.loop-k-test.true c.if-not-is_whole_tet.ensures

@@ -6,24 +6,24 @@ use Rattle.std.proofs.lemmas.List.Sums.{count_by_more_yes, count_by_more_no}
 use Rattle.survey.specs.Cavity.{face_number, blank_face}
 use Rattle.survey.specs.Edges.{has_edge}
 use Rattle.survey.proofs.cavity.edges.count_sharing.Goals as goal
-use Rattle.survey.proofs.cavity.edges.count_sharing.Goals.{then-shares-edge, else-shares-edge}
+use Rattle.survey.proofs.cavity.edges.count_sharing.Goals.{then-shares_edge, else-shares_edge}
 
-pub shares-edge-requires : goal.shares-edge-requires
-shares-edge-requires c = (c.requires.1, All-get_or _ c.args.shell.now c.loop-i.i blank_face c.loop-i-test.true c.requires.0)
+pub shares_edge-requires : goal.shares_edge-requires
+shares_edge-requires c = (c.requires.1, All-get_or _ c.args.shell.now c.loop-i.i blank_face c.loop-i-test.true c.requires.0)
 
 pub loop-i-preserved : goal.loop-i-preserved
 loop-i-preserved c =
     let inv = c.loop-i.invariant in
-    elim c.if-shares-edge.branch [
-      | then-shares-edge w ↦ (
-        omega (arith, w.count_is),
-        w.count_is ∙ ap (λ n. n + 1) inv.1
-            ∙ sym (count_by_more_yes (λ f. has_edge c.args.used.now (face_number c.args.face) c.args.j (face_number f)) c.args.shell.now c.loop-i.i blank_face c.loop-i-test.true (sym w.if-shares-edge.ensures)),
+    elim c.if-shares_edge.branch [
+      | then-shares_edge w ↦ (
+        omega (arith, w.count-is),
+        w.count-is ∙ ap (λ n. n + 1) inv.1
+            ∙ sym (count_by_more_yes (λ f. has_edge c.args.used.now (face_number c.args.face) c.args.j (face_number f)) c.args.shell.now c.loop-i.i blank_face c.loop-i-test.true (sym w.if-shares_edge.ensures)),
       )
-      | else-shares-edge w ↦ (
-        omega (arith, w.count_is),
-        w.count_is ∙ inv.1
-            ∙ sym (count_by_more_no (λ f. has_edge c.args.used.now (face_number c.args.face) c.args.j (face_number f)) c.args.shell.now c.loop-i.i blank_face c.loop-i-test.true (sym w.if-shares-edge.ensures)),
+      | else-shares_edge w ↦ (
+        omega (arith, w.count-is),
+        w.count-is ∙ inv.1
+            ∙ sym (count_by_more_no (λ f. has_edge c.args.used.now (face_number c.args.face) c.args.j (face_number f)) c.args.shell.now c.loop-i.i blank_face c.loop-i-test.true (sym w.if-shares_edge.ensures)),
       )
     ]
 

@@ -7,18 +7,18 @@ use Rattle.survey.specs.Edges.{twice_at}
 use Rattle.survey.proofs.Sharing.{all_yes, all_fails, all_map}
 use Rattle.survey.proofs.cavity.edges.edges_closed.Goals as goal
 
-pub closed-at-requires : goal.closed-at-requires
-closed-at-requires c = (c.requires, All-get_or _ c.args.shell.now c.loop-i.i blank_face c.loop-i-test.true c.requires)
+pub closed_at-requires : goal.closed_at-requires
+closed_at-requires c = (c.requires, All-get_or _ c.args.shell.now c.loop-i.i blank_face c.loop-i-test.true c.requires)
 
-pub returns-then-not-closed-at : goal.returns-then-not-closed-at
-returns-then-not-closed-at c =
+pub returns-then-not-closed_at : goal.returns-then-not-closed_at
+returns-then-not-closed_at c =
     let test = twice_at c.args.used.now (map face_number c.args.shell.now) in
-    sym (all_map test face_number c.args.shell.now ∙ all_fails (λ f. test (face_number f)) c.args.shell.now c.loop-i.i blank_face c.loop-i-test.true (sym c.if-not-closed-at.ensures))
+    sym (all_map test face_number c.args.shell.now ∙ all_fails (λ f. test (face_number f)) c.args.shell.now c.loop-i.i blank_face c.loop-i-test.true (sym c.if-not-closed_at.ensures))
 
 pub loop-i-preserved : goal.loop-i-preserved
 loop-i-preserved c =
     all_yes (λ f. twice_at c.args.used.now (map face_number c.args.shell.now) (face_number f)) c.args.shell.now c.loop-i.i blank_face c.loop-i-test.true
-    c.loop-i.invariant (sym c.if-not-closed-at.ensures)
+    c.loop-i.invariant (sym c.if-not-closed_at.ensures)
 
 pub returns : goal.returns
 returns c =

@@ -6,17 +6,17 @@ use Rattle.survey.proofs.Holes.{rank_le, rank_yes, rank_no, rank_four, kept_bare
 use Rattle.survey.proofs.cavity.number.number.Goals as goal
 use Rattle.survey.proofs.cavity.number.number.Goals.{then-dropped-k, else-dropped-k}
 
-pub overflow-cast-numbers : goal.overflow-cast-numbers
-overflow-cast-numbers c = let few = rank_le (bare c.args.used.now c.args.dropped.now) (4 * c.loop-k.k) in omega arith
+pub overflow_cast-numbers : goal.overflow_cast-numbers
+overflow_cast-numbers c = let few = rank_le (bare c.args.used.now c.args.dropped.now) (4 * c.loop-k.k) in omega arith
 
-pub overflow-add-shell : goal.overflow-add-shell
-overflow-add-shell c = let few = rank_le (bare c.args.used.now c.args.dropped.now) (4 * c.loop-k.k) in omega arith
+pub overflow_add-shell : goal.overflow_add-shell
+overflow_add-shell c = let few = rank_le (bare c.args.used.now c.args.dropped.now) (4 * c.loop-k.k) in omega arith
 
-pub overflow-cast-numbers-else-dropped-k : goal.overflow-cast-numbers-else-dropped-k
-overflow-cast-numbers-else-dropped-k c = let few = rank_le (left c.args.dropped.now) c.loop-k.k in omega arith
+pub overflow_cast-numbers-else-dropped-k : goal.overflow_cast-numbers-else-dropped-k
+overflow_cast-numbers-else-dropped-k c = let few = rank_le (left c.args.dropped.now) c.loop-k.k in omega arith
 
-pub overflow-add-kept : goal.overflow-add-kept
-overflow-add-kept c = let few = rank_le (left c.args.dropped.now) c.loop-k.k in omega arith
+pub overflow_add-kept : goal.overflow_add-kept
+overflow_add-kept c = let few = rank_le (left c.args.dropped.now) c.loop-k.k in omega arith
 
 pub loop-k-preserved : goal.loop-k-preserved
 loop-k-preserved c =
@@ -29,7 +29,7 @@ loop-k-preserved c =
       | then-dropped-k w ↦
           let next : 4 * k + 4 ≡ 4 * (k + 1) = omega arith in (
             w.kept-is ∙ inv.0 ∙ sym (rank_no (left fs) k (not_from_true (gone fs k) w.if-dropped-k.true)),
-            omega (arith, w.shell-is, inv.1, w.exposed-before-shell.ensures.counted, ap (rank (bare rs fs)) next),
+            omega (arith, w.shell-is, inv.1, w.exposed_before-shell.ensures.counted, ap (rank (bare rs fs)) next),
             noted_more rs fs c.loop-k.numbers k _ fits w.numbers-is (inv.1 ∙ sym (cond-true (gone fs k) _ _ w.if-dropped-k.true)) inv.2,
           )
       | else-dropped-k w ↦ (

@@ -28,8 +28,8 @@ loop-k-preserved c = λ conflict flagged.
           let noted = c.requires.0.noted k c.loop-k-test.true ∙ cond-false (gone fs k) (rank (bare rs fs) (4 * k)) (rank (left fs) k) w.if-not-plan-k.true in
           let more = passing_at (left fs) (length rs) k 0 c.loop-k-test.true (not_from_false (gone fs k) w.if-not-plan-k.true) in
           let room : get_or c.args.plan.now.numbers.now c.loop-k.k 0 < length c.loop-k.out = omega (arith, noted, more.0, c.requires.0.total, c.requires.1, c.loop-k.auto.out) in
-          filled_yes (kept_record conflict rs) (left fs) c.loop-k.out k (get_or c.args.plan.now.numbers.now k 0) w.kept-record.result
-          (not_from_false (gone fs k) w.if-not-plan-k.true) noted room w.out-is (w.kept-record.ensures conflict flagged) (c.loop-k.invariant conflict flagged)
+          filled_yes (kept_record conflict rs) (left fs) c.loop-k.out k (get_or c.args.plan.now.numbers.now k 0) w.kept_record.result
+          (not_from_false (gone fs k) w.if-not-plan-k.true) noted room w.out-is (w.kept_record.ensures conflict flagged) (c.loop-k.invariant conflict flagged)
       | else-not-plan-k w ↦ filled_no (kept_record conflict rs) (left fs) c.loop-k.out k (not_from_true (gone fs k) w.if-not-plan-k.false) w.out-is (c.loop-k.invariant conflict flagged)
     ]
 

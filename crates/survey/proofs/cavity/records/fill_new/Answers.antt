@@ -11,8 +11,8 @@ use Rattle.survey.proofs.Filling.{filled_more}
 use Rattle.survey.proofs.Renumbering.{shell_same}
 use Rattle.survey.proofs.cavity.records.fill_new.Goals as goal
 
-pub new-record-requires : goal.new-record-requires
-new-record-requires c = (c.requires.0, All-get_or _ c.args.plan.now.shell.now c.loop-m.m blank_face c.loop-m-test.true c.requires.0.placed)
+pub new_record-requires : goal.new_record-requires
+new_record-requires c = (c.requires.0, All-get_or _ c.args.plan.now.shell.now c.loop-m.m blank_face c.loop-m-test.true c.requires.0.placed)
 
 pub loop-m-preserved : goal.loop-m-preserved
 loop-m-preserved c = λ conflict flagged.

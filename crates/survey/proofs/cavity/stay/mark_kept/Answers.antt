@@ -20,7 +20,7 @@ loop-k-preserved c = λ q.
     elim c.if-not-dropped-k.branch [
       | then-not-dropped-k w ↦
           ap (λ (ms : List Bool). get_or ms q false) w.marks-is
-          ∙ w.mark-record.ensures q
+          ∙ w.mark_record.ensures q
           ∙ ap (λ (b : Bool). has q (tet_of (row rs k)) || b) (c.loop-k.invariant q)
           ∙ or_assoc (has q (tet_of (row rs k))) (kept_has rs fs k q) old
           ∙ ap (λ (b : Bool). b || old) (sym (kept_has_yes rs fs k q (not_from_false (gone fs k) w.if-not-dropped-k.true)))

@@ -19,8 +19,8 @@ bounds-used-shell c = (All-get_or _ c.args.shell.now c.loop-i.i blank_face c.loo
 pub lacking-face-requires : goal.lacking-face-requires
 lacking-face-requires c = (All-get_or _ c.args.shell.now c.loop-i.i blank_face c.loop-i-test.true c.requires.0).1
 
-pub mark-face-requires : goal.mark-face-requires
-mark-face-requires c =
+pub mark_face-requires : goal.mark_face-requires
+mark_face-requires c =
     let ss = c.args.shell.now in
     let here = All-get_or _ ss c.loop-i.i blank_face c.loop-i-test.true c.requires.0 in
     let k = (get_or ss c.loop-i.i blank_face).record in
@@ -35,7 +35,7 @@ loop-i-preserved c = λ q.
     let i = c.loop-i.i in
     let old = get_or c.args.marks.now q false in
     let here = on q (three c.lacking-face.result) in
-    c.mark-face.ensures q
+    c.mark_face.ensures q
     ∙ ap (λ (b : Bool). here || b) (c.loop-i.invariant q)
     ∙ or_assoc here (faces_have rs (map face_number (take i ss)) q) old
     ∙ ap (λ (b : Bool). b || old) (sym (faces_have_more rs ss i q (three c.lacking-face.result) c.loop-i-test.true (All-get_or _ ss i blank_face c.loop-i-test.true c.requires.0).1 c.lacking-face.ensures))

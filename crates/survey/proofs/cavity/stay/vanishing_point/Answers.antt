@@ -9,9 +9,9 @@ returns c =
     let rs = c.args.used.now in
     let fs = c.args.dropped.now in
     let shell = map face_number c.args.shell.now in
-    failing_same (gone c.mark-shell.new.marks) (remains rs fs shell) c.args.points c.first-unmarked.result
+    failing_same (gone c.mark_shell.new.marks) (remains rs fs shell) c.args.points c.first_unmarked.result
     (λ q.
-    c.mark-shell.ensures q
-    ∙ ap (λ (b : Bool). faces_have rs shell q || b) (c.mark-kept.ensures q)
+    c.mark_shell.ensures q
+    ∙ ap (λ (b : Bool). faces_have rs shell q || b) (c.mark_kept.ensures q)
     ∙ kept_or_face (faces_have rs shell q) (kept_has rs fs (length rs) q) (get_or (replicate 1024 false) q false) (unmarked 1024 q))
-    c.first-unmarked.ensures
+    c.first_unmarked.ensures

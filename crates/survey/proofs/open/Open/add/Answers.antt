@@ -11,15 +11,15 @@ returns g c =
     let self = c.args.self.now in
     let done =
     accepted (g.M.Measure.lifts self.measure) (g.G.Grading.admitted self.grading) self.counts c.args.points.now c.args.readings.now c.args.tets.now site c.args.reading _
-    c.in-ok-prepared.prepared
-    (rw (← c.admits-admitted.ensures) c.in-ok-prepared.ensures)
+    c.in_ok-prepared.prepared
+    (rw (← c.admits-admitted.ensures) c.in_ok-prepared.ensures)
     _
     _
     _
     _
-    c.write-site.ensures.points
-    c.write-site.ensures.readings
-    c.write-prepared.ensures
+    c.write_site.ensures.points
+    c.write_site.ensures.readings
+    c.write_prepared.ensures
     refl
     refl
     refl
@@ -33,8 +33,8 @@ returns g c =
           (adds self _ _ _ site c.args.reading (Ok self.counts.points) ran done refl refl);
     }
 
-pub returns-in-err-prepared : goal.returns-in-err-prepared
-returns-in-err-prepared g c =
+pub returns-in_err-prepared : goal.returns-in_err-prepared
+returns-in_err-prepared g c =
     let site : Spot = record { x = c.args.x; y = c.args.y; z = c.args.z; penalty = c.args.penalty } in
     record {
       adds = search rules;
@@ -42,5 +42,5 @@ returns-in-err-prepared g c =
       grading = search rules;
       continues = λ past ran.
           kept g.M.Measure.lifts g.G.Grading.admitted g.G.Grading.classed g.met.G.Grading.eight _ _ _
-          (adds c.args.self.now _ _ _ site c.args.reading c.from-residual.result ran (search rules) (search rules) (search rules));
+          (adds c.args.self.now _ _ _ site c.args.reading c.from_residual.result ran (search rules) (search rules) (search rules));
     }

@@ -8,10 +8,10 @@ use Rattle.survey.proofs.AnyRun.{kept}
 use Rattle.survey.proofs.Locating.{located}
 use Rattle.survey.proofs.sealed.Sealed.locate.Goals as goal
 
-pub returns-then-not-is-whole : goal.returns-then-not-is-whole
-returns-then-not-is-whole g c =
+pub returns-then-not-is_whole : goal.returns-then-not-is_whole
+returns-then-not-is_whole g c =
     let told : Located c.args.self.now.counts c.args.points.now (length c.args.readings.now) c.args.tets.now c.args.x c.args.y c.args.z (Err NotWhole) =
-    not_whole (λ w. both_ways false refl (c.if-not-is-whole.ensures.tells.1 w)) in
+    not_whole (λ w. both_ways false refl (c.if-not-is_whole.ensures.tells.1 w)) in
     record {
       locates = told;
       continues = λ past ran.
@@ -19,10 +19,10 @@ returns-then-not-is-whole g c =
           (locates c.args.self.now _ c.args.x c.args.y c.args.z (Err NotWhole) ran told);
     }
 
-pub returns-then-not-is-on-grid : goal.returns-then-not-is-on-grid
-returns-then-not-is-on-grid g c =
+pub returns-then-not-is_on_grid : goal.returns-then-not-is_on_grid
+returns-then-not-is_on_grid g c =
     let told : Located c.args.self.now.counts c.args.points.now (length c.args.readings.now) c.args.tets.now c.args.x c.args.y c.args.z (Err OffGrid) =
-    off_grid (search rules) (λ on. both_ways false refl (c.if-not-is-on-grid.ensures.tells.1 on)) in
+    off_grid (search rules) (λ on. both_ways false refl (c.if-not-is_on_grid.ensures.tells.1 on)) in
     record {
       locates = told;
       continues = λ past ran.
@@ -34,11 +34,11 @@ pub returns : goal.returns
 returns g c =
     let told =
     located c.args.self.now.counts c.args.points.now (length c.args.readings.now) c.args.tets.now c.args.x c.args.y c.args.z
-    (c.if-not-is-whole.ensures.tells.0 refl) (c.if-not-is-on-grid.ensures.tells.0 refl)
-    (map spot c.steps-from.result) c.first-owner.result c.ok-or.result c.steps-from.ensures c.ok-or.ensures.value c.first-owner.ensures in
+    (c.if-not-is_whole.ensures.tells.0 refl) (c.if-not-is_on_grid.ensures.tells.0 refl)
+    (map spot c.steps_from.result) c.first_owner.result c.ok_or.result c.steps_from.ensures c.ok_or.ensures.value c.first_owner.ensures in
     record {
       locates = told;
       continues = λ past ran.
           kept g.M.Measure.lifts g.G.Grading.admitted g.G.Grading.classed g.met.G.Grading.eight _ _ _
-          (locates c.args.self.now _ c.args.x c.args.y c.args.z c.ok-or.result ran told);
+          (locates c.args.self.now _ c.args.x c.args.y c.args.z c.ok_or.result ran told);
     }

@@ -4,8 +4,8 @@ use Rattle.survey.specs.Pasts.{states}
 use Rattle.survey.proofs.AnyRun.{kept}
 use Rattle.survey.proofs.sealed.Sealed.state.Goals as goal
 
-pub returns-then-not-is-whole : goal.returns-then-not-is-whole
-returns-then-not-is-whole g c = record {
+pub returns-then-not-is_whole : goal.returns-then-not-is_whole
+returns-then-not-is_whole g c = record {
   states = search rules;
   continues = λ past ran.
       kept g.M.Measure.lifts g.G.Grading.admitted g.G.Grading.classed g.met.G.Grading.eight _ _ _

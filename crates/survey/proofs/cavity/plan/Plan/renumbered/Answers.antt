@@ -18,15 +18,15 @@ returns-then-not-self-other c = λ conflict flagged.
     ∙ cond-false (gone fs b) (rank (bare rs fs) (4 * b)) (rank (left fs) b) c.if-not-self-other.true
     ∙ renumbered_kept conflict rs fs flagged c.requires.0.ready (face_at (row rs c.args.k) c.args.slot) b c.if-across.false within c.if-not-self-other.true
 
-pub overflow-cast-result-2 : goal.«cast-result-2»
-overflow-cast-result-2 c =
+pub overflow_cast-result-2 : goal.overflow_cast-result-2
+overflow_cast-result-2 c =
     let rs = records c.args.self.now in
     let fs = flags c.args.self.now in
     let b = neighbour (row rs c.args.k) c.args.slot in
     let within = c.requires.0.ready.named c.args.k c.args.slot c.requires.1.0 c.requires.1.1 c.if-across.false in
     let noted = c.requires.0.noted b within ∙ cond-true (gone fs b) (rank (bare rs fs) (4 * b)) (rank (left fs) b) c.if-not-self-other.false in
-    let most = rank_mono (bare rs fs) (4 * b + c.opposite-slot.result) (4 * length rs) (omega (arith, within, c.opposite-slot.ensures.slot)) in
-    omega (arith, noted, most, c.exposed-before-before.ensures.counted, c.requires.0.room, shell_length rs fs c.args.self.now.shell.now c.requires.0.faces)
+    let most = rank_mono (bare rs fs) (4 * b + c.opposite_slot.result) (4 * length rs) (omega (arith, within, c.opposite_slot.ensures.slot)) in
+    omega (arith, noted, most, c.exposed_before-before.ensures.counted, c.requires.0.room, shell_length rs fs c.args.self.now.shell.now c.requires.0.faces)
 
 pub returns : goal.returns
 returns c = λ conflict flagged.
@@ -35,6 +35,6 @@ returns c = λ conflict flagged.
     let b = neighbour (row rs c.args.k) c.args.slot in
     let within = c.requires.0.ready.named c.args.k c.args.slot c.requires.1.0 c.requires.1.1 c.if-across.false in
     let noted = c.requires.0.noted b within ∙ cond-true (gone fs b) (rank (bare rs fs) (4 * b)) (rank (left fs) b) c.if-not-self-other.false in
-    let slot = c.opposite-slot.ensures.value ∙ ap (λ (t : Triple). opposite (tet_of (row rs b)) t) c.lacking-face.ensures in
-    omega (arith, noted, c.requires.0.total, c.exposed-before-before.ensures.counted)
-    ∙ renumbered_dropped conflict rs fs flagged c.requires.0.ready (face_at (row rs c.args.k) c.args.slot) b c.opposite-slot.result c.if-across.false within c.if-not-self-other.false c.opposite-slot.ensures.slot slot
+    let slot = c.opposite_slot.ensures.value ∙ ap (λ (t : Triple). opposite (tet_of (row rs b)) t) c.lacking-face.ensures in
+    omega (arith, noted, c.requires.0.total, c.exposed_before-before.ensures.counted)
+    ∙ renumbered_dropped conflict rs fs flagged c.requires.0.ready (face_at (row rs c.args.k) c.args.slot) b c.opposite_slot.result c.if-across.false within c.if-not-self-other.false c.opposite_slot.ensures.slot slot
