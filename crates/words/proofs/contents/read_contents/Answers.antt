@@ -9,8 +9,8 @@ use Rattle.words.proofs.contents.read_contents.Goals as goal
 pub returns-in-Err : goal.returns-in-Err
 returns-in-Err g c = pinned_fault _ _ _ _ _ _ c.loop-next.invariant c.in-Err.ensures.next.0
 
-pub returns-in-default : goal.returns-in-default
-returns-in-default g c = pinned_end _ _ _ _ _ c.loop-next.invariant (next_ended _ _ _ _ c.in-Ok.ensures.next c.in-default.is)
+pub returns-in_default : goal.returns-in_default
+returns-in_default g c = pinned_end _ _ _ _ _ c.loop-next.invariant (next_ended _ _ _ _ c.in-Ok.ensures.next c.in_default.is)
 
 pub loop-next-smaller : goal.loop-next-smaller
 loop-next-smaller g c =
@@ -21,6 +21,6 @@ loop-next-smaller g c =
 pub loop-next-preserved : goal.loop-next-preserved
 loop-next-preserved g c =
     let moved = next_moved _ _ _ _ _ c.in-Ok.ensures.next c.in-Some.is in
-    let kept : is_ok c.push.result ≡ true = c.is-err.ensures.negation ∙ ap not c.if-is-err.false in
+    let kept : is_ok c.push.result ≡ true = c.is_err.ensures.negation ∙ ap not c.if-is_err.false in
     let pushed = chosen _ _ _ _ c.push.ensures.items kept in
-    goes_on _ _ _ _ _ _ _ _ _ c.loop-next.invariant moved c.in-Ok.ensures.bytes (ap (map entry) pushed ∙ map_push entry _ _) c.label-after-label.ensures
+    goes_on _ _ _ _ _ _ _ _ _ c.loop-next.invariant moved c.in-Ok.ensures.bytes (ap (map entry) pushed ∙ map_push entry _ _) c.label_after-label.ensures

@@ -16,5 +16,5 @@ returns-in-1 c = let n = c.args.bits in let t = and_mask (n / 2 ^ 28) 2 in let v
 pub returns-in-2 : goal.returns-in-2
 returns-in-2 c = let l = and_mask c.args.bits 30 in search rules
 
-pub returns-in-default : goal.returns-in-default
-returns-in-default c = let l = and_mask c.args.bits 30 in search rules
+pub returns-in_default : goal.returns-in_default
+returns-in_default c = let l = and_mask c.args.bits 30 in search rules
