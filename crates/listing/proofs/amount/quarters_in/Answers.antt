@@ -4,4 +4,4 @@ use Rattle.grading.proofs.Amounts.{literal_four}
 use Rattle.listing.proofs.amount.quarters_in.Goals as goal
 
 pub returns : goal.returns
-returns c = c.saturating-f64-to-u32.ensures ∙ ap (λ v. to_unsigned 32 (mul binary64 c.args.amount v)) literal_four
+returns c = c.saturating_f64_to_u32.ensures ∙ ap (λ v. to_unsigned 32 (mul binary64 c.args.amount v)) literal_four

@@ -6,8 +6,8 @@ use Rattle.listing.proofs.lines.token_lines.Goals as goal
 pub loop-token-preserved : goal.loop-token-preserved
 loop-token-preserved c =
     let inv = c.loop-token.invariant in
-    let pushed = chosen _ _ _ _ c.push-str.ensures.bytes (ap is_ok c.in-ok-push-str.was) in
-    let line = c.as-str.ensures.value ∙ c.in-ok-line.ensures in (
+    let pushed = chosen _ _ _ _ c.push_str.ensures.bytes (ap is_ok c.in_ok-push_str.was) in
+    let line = c.as_str.ensures.value ∙ c.in_ok-line.ensures in (
       omega (arith, c.sites-number.ensures.bound),
       lines_more _ _ _ _ _ _ _ _ c.loop-token-test.true inv.1 (pushed ∙ ap (λ l. string_bytes c.loop-token.text ++ l) line) c.sites-number.ensures.value,
     )
