@@ -5,4 +5,4 @@ use Rattle.mubdrax_c.proofs.report.mubdrax_report.Goals as goal
 pub returns-in-Ok : goal.returns-in-Ok
 returns-in-Ok c =
     reported _ c.in-Ok.report.refused c.in-Ok.ensures.reported
-    (subst (λ b. Wrote b c.in-Ok.report.refused c.args.room.now c.write-text.new.room c.write-text.result) c.as-bytes.ensures.value c.write-text.ensures)
+    (subst (λ b. Wrote b c.in-Ok.report.refused c.args.room.now c.write_text.new.room c.write_text.result) c.as_bytes.ensures.value c.write_text.ensures)
