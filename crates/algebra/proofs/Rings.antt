@@ -1,5 +1,5 @@
 -- Why expressions with one normal form have one value: each step towards the normal form keeps the value.
-use Rattle.std.proofs.Common.{◌≡◌, ℕ, Bool, true, false, T, eqb, List, get_or, ℤ, pos, negsuc, ◌+ℤ◌, ◌-ℤ◌, ◌*ℤ◌, neg_ℤ, sym, refl, ap, ◌∙◌, eqb→eq}
+use Rattle.std.proofs.Common.{◌≡◌, ℕ, Bool, true, false, T, List, get_or, ℤ, pos, negsuc, ◌+ℤ◌, ◌-ℤ◌, ◌*ℤ◌, neg_ℤ, sym, refl, ap, ◌∙◌, eqb→eq}
 use Prim.Native.Nat.{compare, Ordering}
 use lib.Dec.{compare_is_eq}
 use lib.IntN.{one, +ℤ_assoc, +ℤ_comm, +ℤ_idl, +ℤ_idr, +ℤ_invr, *ℤ_comm, zero-*ℤ, *ℤ-zero, *ℤ-one}

@@ -1,5 +1,5 @@
 -- Sums of whole numbers over a list.
-use Rattle.std.specs.Prelude.{◌≡◌, ℕ, Bool, true, false, not, ◌⊎◌, List, [], ◌∷◌, ◌++◌, ℤ, pos, ◌+ℤ◌, neg_ℤ, count_by, filter}
+use Rattle.std.specs.Prelude.{◌≡◌, Bool, true, false, not, ◌⊎◌, List, [], ◌∷◌, ◌++◌, ℤ, pos, ◌+ℤ◌, neg_ℤ, count_by, filter}
 use Rattle.std.specs.List.{AllByRecursion as All}
 
 abbrev pub sum_z : {X : Type 0} → (X → ℤ) → List X → ℤ

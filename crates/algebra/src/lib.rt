@@ -2,6 +2,7 @@
 //!
 //! Other crates import the lemmas of `proofs/`. Each function here does nothing at run time: its contract
 //! is the theorem that the crate promises.
+#![tactic(auto)]
 
 pub mod integer;
 pub mod ring;

@@ -2,12 +2,11 @@
 -- through the four points of a tetrahedron.
 use Rattle.std.proofs.Common.{◌≡◌, ℕ, Bool, true, false, T, ◌↔◌, [], ◌∷◌, ℤ, pos, ◌+ℤ◌, ◌-ℤ◌, ◌*ℤ◌, neg_ℤ, ◌<ℤ◌, refl, arith}
 use lib.IntN.{*ℤ-zero}
-use lib.Signed.{lt_z}
 use Rattle.std.proofs.lemmas.Int.{ints}
 use Rattle.algebra.specs.Rings.{Expr, var, num, neg, ◌⊕◌, ◌⊖◌, ◌⊗◌, agree}
 use Rattle.algebra.proofs.Rings.{ring}
 use Rattle.algebra.proofs.Signs.{mul_positive, cut_positive}
-use Rattle.geometry.specs.Circumspheres.{apart, way_x, way_y, way_z, Centre, centre, from_centre, distance, Circumscribed, Circumsphere, NearerInside}
+use Rattle.geometry.specs.Circumspheres.{apart, way_x, way_y, way_z, Centre, from_centre, distance, Circumscribed, Circumsphere, NearerInside}
 use Rattle.geometry.specs.Conflicts.{conflict_by}
 use Rattle.geometry.specs.Depths.{depth}
 use Rattle.geometry.specs.Lifts.{Lifted, lifted}

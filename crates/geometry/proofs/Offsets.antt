@@ -1,5 +1,5 @@
 -- The numbers on the way to a determinant of three offsets fit 64 bits.
-use Rattle.std.proofs.Common.{◌≤◌, ℤ, ◌+ℤ◌, ◌-ℤ◌, ◌*ℤ◌, nat_abs, arith, w64, SFits}
+use Rattle.std.proofs.Common.{◌≤◌, ℤ, ◌-ℤ◌, ◌*ℤ◌, nat_abs, arith, w64, SFits}
 use Rattle.algebra.proofs.Sizes.{abs_add, abs_sub, abs_mul, fits}
 use Rattle.geometry.specs.declared.offset.Minors.{Minors}
 use Rattle.geometry.specs.declared.offset.Offset.{Offset}

@@ -1,5 +1,5 @@
 -- Signs, as the numbers -1, 0 and 1.
-use Rattle.std.specs.Prelude.{ℕ, zero, suc, ℤ, pos, negsuc}
+use Rattle.std.specs.Prelude.{zero, suc, ℤ, pos, negsuc}
 use Rattle.geometry.specs.declared.sign.Sign.{Sign}
 use Rattle.geometry.specs.declared.sign.Sign.TheVariants.{Negative, Zero, Positive}
 

@@ -1,5 +1,6 @@
 //! Points of a survey, the signed volume Side, the measures that lift points, and Depth, which says
 //! whether a point conflicts with a tetrahedron.
+#![tactic(auto)]
 
 pub mod circumsphere;
 pub mod conflict;

@@ -1,5 +1,5 @@
 -- Amounts of the assay: the float literals of the code are the whole numbers of the rules, and a quarter is exact. Assumes nothing.
-use Rattle.std.proofs.Common.{◌≡◌, ℕ, suc, ◌+◌, ◌*◌, ◌^◌, ◌<◌, ◌≤◌, true, false, List, [], ◌∷◌, pos, sym, refl, ap, ◌∙◌, subst, true≢false, lt_of_lt_of_le, mul_assoc, mul-one, mul_left_comm, arith, lit<, lit≤, pow_mono, shl_lt}
+use Rattle.std.proofs.Common.{◌≡◌, ℕ, suc, ◌+◌, ◌*◌, ◌^◌, ◌<◌, ◌≤◌, true, false, List, [], ◌∷◌, sym, refl, subst, true≢false, lt_of_lt_of_le, mul_assoc, mul-one, mul_left_comm, arith, lit<, lit≤, pow_mono, shl_lt}
 use lib.Ieee.{Float, nan, inf, fin, binary64, low, emax, of_bits, of_int, div, round, up, down}
 use lib.Ieee.Exact.{HasValue, round_exact}
 use lib.Ieee.Fits.{down_pos}

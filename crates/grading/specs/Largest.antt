@@ -1,6 +1,6 @@
 -- The largest of some amounts reaches a limit exactly where one of them does, so the class of four readings is the same in every order.
 -- Assumes nothing.
-use Rattle.std.specs.Prelude.{◌≡◌, ℕ, ◌+◌, ◌*◌, ◌<◌, ◌≤◌, Bool, true, false, cond, not, ◌&&◌, ◌||◌, T, List, [], ◌∷◌, ◌==◌, ◌≢◌, nat_lt, refl, Float}
+use Rattle.std.specs.Prelude.{◌≡◌, ℕ, ◌+◌, ◌*◌, ◌<◌, Bool, true, false, cond, not, ◌&&◌, ◌||◌, T, List, [], ◌∷◌, ◌==◌, ◌≢◌, nat_lt, refl, Float}
 use Rattle.std.proofs.Common.{sym, ap, ◌∙◌, subst, mul-pos, arith, ltb→lt}
 use Rattle.std.specs.Float.Ieee.{up, down, le, is_nan, of_int}
 use Rattle.std.specs.Float.Ieee.Fits.{up_pos, down_pos}
@@ -10,7 +10,7 @@ use Rattle.std.proofs.lemmas.List.Sums.{sum_by-cons}
 use Rattle.std.proofs.lemmas.Bool.{ltb-false, or_parts}
 use Rattle.std.proofs.lemmas.Bool.Decides.{nat_tests}
 use Rattle.grading.specs.declared.assay.Reading.{Reading}
-use Rattle.grading.specs.Assay.{whole, limits, counted, reached, assay_class}
+use Rattle.grading.specs.Assay.{limits, counted, reached, assay_class}
 
 passes : (b : Bool) → T b → b ≡ true
 passes true t = refl

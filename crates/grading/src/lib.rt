@@ -1,5 +1,7 @@
 //! Gradings: what a reading is, which readings are admitted, and the price class of ground
 //! between four of them. A survey is generic in its grading; two are delivered.
+#![tactic(auto)]
+
 pub mod assay;
 pub mod grading;
 pub mod soil;

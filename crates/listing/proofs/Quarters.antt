@@ -1,6 +1,6 @@
 -- Four times an amount of a survey word is the word's value, so its decimals are those of its quarters. Assumes nothing.
-use Rattle.std.proofs.Common.{◌≡◌, ℕ, ◌+◌, ◌-◌, ◌*◌, ◌/◌, ◌^◌, ◌<◌, ◌≤◌, min, true, false, pos, sym, refl, ap, ◌∙◌, subst, true≢false, mul_comm, mul-one, mul-div_cancel, arith, lit<, lit≤}
-use lib.Ieee.{Float, nan, inf, fin, binary64, up, down, mul, of_int, round, to_unsigned}
+use Rattle.std.proofs.Common.{◌≡◌, ℕ, ◌*◌, ◌/◌, ◌^◌, ◌<◌, min, true, false, sym, ap, ◌∙◌, true≢false, mul-one, mul-div_cancel, arith, lit<}
+use lib.Ieee.{Float, nan, inf, fin, binary64, up, down, mul, of_int, to_unsigned}
 use lib.Ieee.Exact.{HasValue}
 use lib.Ieee.Fits.{down_pos}
 use lib.Ieee.Scale.{round_same}

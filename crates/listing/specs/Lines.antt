@@ -7,7 +7,6 @@ use Rattle.words.specs.declared.contents.Contents.{Contents}
 use Rattle.words.specs.declared.refusal.Refusal.{Refusal}
 use Rattle.words.specs.declared.token.Site.{Site}
 use Rattle.words.specs.declared.token.Token.{Token}
-use Rattle.words.specs.declared.token.Token.TheVariants as Token
 use Rattle.words.specs.Refusal.{refusal_line}
 use Rattle.words.specs.Token.{entry, sites_in}
 

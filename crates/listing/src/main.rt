@@ -1,4 +1,6 @@
 //! Prints what a survey file says: one line for each item, or for the first fault.
+#![tactic(auto)]
+
 use anyhow::anyhow;
 use grading::assay::Assay;
 use std::io::Read;

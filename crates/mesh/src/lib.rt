@@ -2,6 +2,7 @@
 //! and that the mesh stays sound; the records of the tetrahedron table, and what an add makes of them.
 //!
 //! Most functions here do nothing at run time: the contract is the theorem that the crate promises.
+#![tactic(auto)]
 
 pub mod adding;
 pub mod cases;

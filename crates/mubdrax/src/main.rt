@@ -1,4 +1,6 @@
 //! Reads a survey file and prints the statement of its survey, or why it is refused.
+#![tactic(auto)]
+
 use anyhow::anyhow;
 use report::report::report_on;
 use std::io::Read;

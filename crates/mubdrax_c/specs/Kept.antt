@@ -1,5 +1,5 @@
 -- What a survey remembers, as the caller keeps it.
-use Rattle.std.specs.Prelude.{◌≡◌, Bool}
+use Rattle.std.specs.Prelude.{Bool}
 use Rattle.survey.specs.Resumes.{Counted, possible}
 use Rattle.survey.specs.declared.counts.Counts.{Counts}
 use Rattle.mubdrax_c.specs.declared.counts.KeptCounts.{KeptCounts}

@@ -1,6 +1,8 @@
 //! The survey for C and Rust programs: functions with plain data, under the plain measure and graded by assay.
 //!
 //! The caller keeps everything: the tables, and the counts that a survey remembers. Nothing of it is trusted.
+#![tactic(auto)]
+
 pub mod add;
 pub mod answer;
 pub mod counts;

@@ -1,4 +1,6 @@
 //! A small survey under the weighted measure, graded by soil: its sites, one place located, and its statement.
+#![tactic(auto)]
+
 use anyhow::anyhow;
 use geometry::weighted::Weighted;
 use grading::soil::{Reading, Soil};

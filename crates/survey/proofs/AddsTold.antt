@@ -1,5 +1,5 @@
 -- On whole tables that hold a state in order, an add answers as the rules allow.
-use Rattle.std.proofs.Common.{◌≡◌, ℕ, zero, suc, ◌+◌, ◌<◌, ◌≤◌, Bool, true, false, not, ◌&&◌, ◌||◌, ltb, leb, ◌⊎◌, List, [], ◌∷◌, ◌++◌, map, length, get_or, Decides, sym, refl, ap, ◌∙◌, subst, inl, inr, arith}
+use Rattle.std.proofs.Common.{◌≡◌, ℕ, zero, suc, ◌+◌, ◌<◌, ◌≤◌, Bool, true, false, not, ◌||◌, ltb, ◌⊎◌, List, [], ◌∷◌, ◌++◌, map, length, get_or, Decides, sym, refl, ap, ◌∙◌, subst, inl, inr, arith}
 use Rattle.std.specs.List.{AllByRecursion as All}
 use Rattle.std.proofs.ByRecursion.{All-from_get_or, All-get_or, All-map}
 use Rattle.std.proofs.lemmas.List.{length-map}
@@ -14,7 +14,7 @@ use Rattle.mesh.specs.Adding.{Adds, Closed, Conflicting, Fitting, SamePlace, Sta
 use Rattle.mesh.specs.Orientations.{Balanced}
 use Rattle.mesh.specs.Records.{Whole, every, mesh_of}
 use Rattle.mesh.specs.Spaces.{conflicting, numbered}
-use Rattle.mesh.specs.Surveys.{Answer, Grading, OnGrid, Site, State, accepted, count, points}
+use Rattle.mesh.specs.Surveys.{Grading, OnGrid, Site, State, accepted, count}
 use Rattle.mesh.specs.Tetrahedra.{Tet, closed, stays}
 use Rattle.mesh.specs.declared.record.TetRecord.{TetRecord}
 use Rattle.mesh.proofs.AnyPast.{InOrder}
@@ -23,7 +23,6 @@ use Rattle.survey.specs.declared.counts.Counts.{Counts}
 use Rattle.survey.specs.declared.record.PointRecord.{PointRecord}
 use Rattle.survey.specs.declared.refusal.Refusal.{Refusal}
 use Rattle.survey.specs.declared.refusal.Refusal.TheVariants.{PointTable, TetTable, NotWhole, OffGrid, Penalty, Reading, PointsFull, PlaceTaken, NoConflict, TetsFull, ShellOpen, Vanishes, Unowned}
-use Rattle.survey.specs.Adds.{questions}
 use Rattle.survey.specs.Pasts.{refusal_told}
 use Rattle.survey.specs.Places.{light, on_grid}
 use Rattle.survey.specs.Prepares.{NamesLost, hole_questions, stays_in}
@@ -36,7 +35,7 @@ use Rattle.survey.specs.Wholeness.{WholeTables}
 use Rattle.survey.proofs.HoleTold.{dropped_told, edges_told, stays_told}
 use Rattle.survey.proofs.TableReads.{numbered_is}
 use Rattle.survey.proofs.WholeTables.{tables_tell}
-use Rattle.survey.proofs.WholeUses.{used_points_length, used_tets_length}
+use Rattle.survey.proofs.WholeUses.{used_points_length}
 
 -- ---- the first no
 

@@ -1,5 +1,5 @@
 -- A survey with a past: its calls are steps that the rules allow, and its tables hold the state to which they lead.
-use Rattle.std.proofs.Common.{◌≡◌, ℕ, zero, suc, ◌+◌, ◌-◌, ◌<◌, ◌≤◌, Bool, true, false, cond, ltb, List, [], ◌∷◌, ◌++◌, map, length, take, drop, set, None, Ok, Err, Option, Result, sym, refl, ap, ◌∙◌, subst, arith}
+use Rattle.std.proofs.Common.{◌≡◌, ℕ, zero, suc, ◌+◌, ◌-◌, ◌<◌, Bool, true, false, ltb, List, [], ◌∷◌, ◌++◌, map, length, take, drop, set, None, Ok, Err, Result, sym, refl, ap, ◌∙◌, subst, arith}
 use Rattle.std.specs.List.{AllByRecursion as All, slice_get}
 use Rattle.std.proofs.ByRecursion.{All-weaker}
 use Rattle.std.proofs.lemmas.Bool.{cond-false, le-ltb}
@@ -12,16 +12,12 @@ use Rattle.mesh.specs.Past.{Allowed, Step, adds as step_adds, locates as step_lo
 use Rattle.mesh.specs.Records.{mesh_of}
 use Rattle.mesh.specs.Soundness.{SoundMesh}
 use Rattle.mesh.specs.Statements.{lines, margin}
-use Rattle.mesh.specs.Surveys.{Answer, Call, Eightfold, Grading, Line, State, Tables, accepted, add, after_seal, count, created, locate, points as points_of, reading, seal, sealed, state, stated}
+use Rattle.mesh.specs.Surveys.{Answer, Call, Eightfold, Grading, State, Tables, accepted, add, after_seal, count, created, locate, points as points_of, reading, seal, sealed, state, stated}
 use Rattle.mesh.specs.Tetrahedra.{Tet}
-use Rattle.mesh.specs.declared.record.TetRecord.{TetRecord}
 use Rattle.mesh.proofs.AnyPast.{InOrder, past_adds_up, past_keeps_order, past_sound}
 use Rattle.mesh.proofs.NeverBroken.{past_unbroken}
 use Rattle.survey.specs.declared.counts.Counts.{Counts}
-use Rattle.survey.specs.declared.open.Open.{Open}
-use Rattle.survey.specs.declared.record.PointRecord.{PointRecord}
 use Rattle.survey.specs.declared.refusal.Refusal.{Refusal}
-use Rattle.survey.specs.declared.sealed.Sealed.{Sealed}
 use Rattle.survey.specs.declared.statement.Statement.{Statement}
 use Rattle.survey.specs.Adds.{Accepted, AddsTo, Refused, site_record}
 use Rattle.survey.specs.Locates.{Located, located_answer}
@@ -29,8 +25,6 @@ use Rattle.survey.specs.Pasts.{Ran, Survey, add_told, adds, closed, counts_in, c
 use Rattle.survey.specs.Plans.{table_after}
 use Rattle.survey.specs.Prepares.{NamesLost, hole_questions}
 use Rattle.survey.specs.Questions.{first_no, site_questions}
-use Rattle.survey.specs.Refusals.{number_of}
-use Rattle.survey.specs.Seals.{SealedAs}
 use Rattle.survey.specs.States.{Stated, as_told, figures, meaning, reading_at}
 use Rattle.survey.specs.Tables.{Lent, spots, used_tets}
 use Rattle.survey.specs.Upheld.{EveryPast, Holds, Kept, Upheld, sizes}

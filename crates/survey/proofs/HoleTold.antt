@@ -1,10 +1,10 @@
 -- What adding asks of the hole that a site makes, told from the records and from the mesh that they read as.
-use Rattle.std.proofs.Common.{◌≡◌, ℕ, zero, suc, ◌+◌, ◌*◌, ◌/◌, ◌%◌, ◌<◌, ◌≤◌, Bool, true, false, not, ◌&&◌, ◌||◌, eqb, List, [], ◌∷◌, map, length, get_or, count_by, sym, refl, ap, ◌∙◌, arith}
+use Rattle.std.proofs.Common.{◌≡◌, ℕ, zero, suc, ◌/◌, ◌%◌, ◌<◌, Bool, true, false, ◌&&◌, ◌||◌, eqb, List, [], ◌∷◌, map, length, get_or, count_by, sym, refl, ap, ◌∙◌, arith}
 use mathlib.Core.Path.{fun_ext}
 use Rattle.algebra.proofs.Sums.{sum_by-map}
 use Rattle.algebra.specs.Lists.{all, some}
 use Rattle.algebra.proofs.Lists.{bit, some-map}
-use Rattle.mesh.specs.Added.{drops, edge_on, exposed, face_of, facet_of, kept_rows, shell_faces, shell_facets}
+use Rattle.mesh.specs.Added.{drops, edge_on, face_of, facet_of, kept_rows, shell_faces}
 use Rattle.mesh.specs.Orientations.{Balanced}
 use Rattle.mesh.specs.Records.{Whole, blank, every, face_at, mesh_of, row, tet_of}
 use Rattle.mesh.specs.Tetrahedra.{Facet, Tet, Triple, around, closed, dropped, has, kept, on, shell, stays, triple}

@@ -1,5 +1,5 @@
 -- Whole records that read as a sound, balanced mesh are sound themselves: across each face they name the one other record that has it.
-use Rattle.std.proofs.Common.{◌≡◌, ℕ, zero, suc, ◌<◌, Bool, true, false, cond, ◌≢◌, ◌⊎◌, List, [], ◌∷◌, length, get_or, pos, ◌<ℤ◌, sym, refl, ap, ◌∙◌, subst, inl, inr, arith}
+use Rattle.std.proofs.Common.{◌≡◌, ℕ, suc, ◌<◌, Bool, true, false, ◌≢◌, ◌⊎◌, List, [], ◌∷◌, length, get_or, pos, ◌<ℤ◌, sym, refl, ap, ◌∙◌, subst, inl, inr, arith}
 use Rattle.std.specs.List.{AllByRecursion as All}
 use Rattle.std.proofs.ByRecursion.{All-get_or}
 use Rattle.std.proofs.lemmas.List.{length-map}
@@ -9,7 +9,7 @@ use Rattle.algebra.specs.Lists.{some}
 use Rattle.algebra.proofs.Lists.{some-map}
 use Rattle.geometry.specs.Lifts.{Lift}
 use Rattle.geometry.specs.Spots.{Spot, bare}
-use Rattle.mesh.specs.Orientations.{Balanced, Proper}
+use Rattle.mesh.specs.Orientations.{Balanced}
 use Rattle.mesh.specs.Records.{Whole, blank, face_at, is_outer, mesh_of, neighbour, opposite, point, row, slot_at, tet_of}
 use Rattle.mesh.specs.Soundness.{SoundMesh}
 use Rattle.mesh.specs.Spaces.{conflicting, numbered, side_of}

@@ -1,7 +1,7 @@
 -- Creating and accepted adds leave whole tables that hold the state which the rules tell.
-use Rattle.std.proofs.Common.{◌≡◌, ℕ, zero, suc, ◌+◌, ◌-◌, ◌<◌, ◌≤◌, Bool, true, false, List, [], ◌∷◌, ◌++◌, map, length, get_or, take, drop, set, replicate, pos, ◌<ℤ◌, Ok, sym, refl, ap, ◌∙◌, subst, inl, inr, append_assoc, arith, length-append, length-drop, length-set, length-take}
+use Rattle.std.proofs.Common.{◌≡◌, ℕ, ◌+◌, ◌-◌, ◌<◌, ◌≤◌, true, List, [], ◌∷◌, ◌++◌, map, length, get_or, take, drop, set, replicate, pos, ◌<ℤ◌, sym, refl, ap, ◌∙◌, subst, inl, inr, append_assoc, arith, length-append, length-drop, length-set, length-take}
 use Rattle.std.proofs.ByRecursion.{All-get_or}
-use Rattle.std.proofs.lemmas.List.{drop-append-le, get_or_append_left, get_or_push, length-map, length_push, length-replicate, map_push, take_at, take_more_set}
+use Rattle.std.proofs.lemmas.List.{drop-append-le, get_or_append_left, get_or_push, length-map, length-replicate, map_push, take_at, take_more_set}
 use Rattle.std.proofs.lemmas.Bool.{cases_eq}
 use Rattle.geometry.specs.Lifts.{Lift}
 use Rattle.geometry.specs.Spots.{Spot}
@@ -10,17 +10,15 @@ use Rattle.mesh.specs.Adding.{conflicts, with_site}
 use Rattle.mesh.specs.Records.{Whole, mesh_of, row, tet_of}
 use Rattle.mesh.specs.Soundness.{SoundMesh}
 use Rattle.mesh.specs.Spaces.{side_of}
-use Rattle.mesh.specs.Surveys.{Grading, State, count, created, points as points_of}
+use Rattle.mesh.specs.Surveys.{Grading, State, count, points as points_of}
 use Rattle.mesh.specs.Tetrahedra.{Tet, big}
 use Rattle.mesh.specs.declared.record.TetRecord.{TetRecord}
 use Rattle.mesh.proofs.AnyPast.{InOrder, count_more, points_pushed}
 use Rattle.mesh.proofs.RecordsOfStates.{read_with_site, records_after_fit, whole_with_site}
 use Rattle.mesh.proofs.Sharing.{tet_row}
 use Rattle.survey.specs.declared.counts.Counts.{Counts}
-use Rattle.survey.specs.declared.open.Open.{Open}
 use Rattle.survey.specs.declared.record.PointRecord.{PointRecord}
 use Rattle.survey.specs.Adds.{site_record}
-use Rattle.survey.specs.Creates.{Created}
 use Rattle.survey.specs.Plans.{table_after, zero_record}
 use Rattle.survey.specs.Questions.{first_no}
 use Rattle.survey.specs.Tables.{Lent, blank_point, spot_of, spots, used_points, used_tets}

@@ -16,7 +16,6 @@ use Rattle.mesh.proofs.WholeTests.{whole_tells}
 use Rattle.survey.specs.declared.counts.Counts.{Counts}
 use Rattle.survey.specs.declared.record.PointRecord.{PointRecord}
 use Rattle.survey.specs.Corners.{corner, is_corner}
-use Rattle.survey.specs.Places.{light}
 use Rattle.survey.specs.Tables.{AllInLimits, blank_point, spot_of, spots, used_points, used_tets}
 use Rattle.survey.specs.Wholeness.{WholePoint, WholeTables, as_created, is_site, whole_point, whole_points, whole_tets, whole_tables}
 

@@ -4,10 +4,8 @@ use Rattle.std.specs.Prelude.{◌≡◌, ℕ, Bool, true, false, List, [], ◌�
 use Rattle.geometry.specs.Lifts.{Lift}
 use Rattle.geometry.specs.Spots.{Spot}
 use Rattle.mesh.specs.Surveys.{Call, add, locate, seal, state, Answer, accepted, refused, refused_over, sealed, stated}
-use Rattle.mesh.specs.declared.record.TetRecord.{TetRecord}
 use Rattle.survey.specs.declared.counts.Counts.{Counts}
 use Rattle.survey.specs.declared.open.Open.{Open}
-use Rattle.survey.specs.declared.record.PointRecord.{PointRecord}
 use Rattle.survey.specs.declared.refusal.Refusal.{Refusal}
 use Rattle.survey.specs.declared.refusal.Refusal.TheVariants.{PointTable, TetTable, NotWhole, OffGrid, Penalty, Reading, PointsFull, PlaceTaken, NoConflict, TetsFull, ShellOpen, Vanishes, Unowned}
 use Rattle.survey.specs.declared.sealed.Sealed.{Sealed}

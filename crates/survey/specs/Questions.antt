@@ -1,5 +1,5 @@
 -- What adding asks of the tables and the site, in its order.
-use Rattle.std.specs.Prelude.{◌≡◌, ℕ, ◌+◌, ◌-◌, ◌<◌, Bool, List, [], ◌∷◌, Ok, Err, Result, nat_lt}
+use Rattle.std.specs.Prelude.{◌≡◌, ℕ, ◌+◌, ◌<◌, Bool, List, [], ◌∷◌, Ok, Err, Result, nat_lt}
 use Rattle.std.specs.List.{prefix_len}
 use Rattle.geometry.specs.Spots.{Spot}
 use Rattle.mesh.specs.declared.record.TetRecord.{TetRecord}

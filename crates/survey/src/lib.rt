@@ -1,6 +1,8 @@
 //! A survey over the caller's tables: creating, adding, sealing, locating and stating.
 //!
 //! The tables are lent with each call and changed where they are; nothing here allocates.
+#![tactic(auto)]
+
 mod cavity;
 mod conflict;
 mod corner;

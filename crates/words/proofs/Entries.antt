@@ -1,16 +1,15 @@
 -- The reader's steps find what the rules say stands at a word, and nothing else does. Assumes nothing.
-use Rattle.std.proofs.Common.{◌≡◌, ℕ, ◌+◌, ◌-◌, ◌*◌, ◌/◌, ◌<◌, ◌≤◌, Bool, true, false, cond, ◌&&◌, eqb, ltb, leb, ◌⊎◌, List, length, take, drop, Some, None, Ok, Err, Option, Result, sym, refl, ap, ◌∙◌, subst, inl, inr, arith, length-drop}
+use Rattle.std.proofs.Common.{◌≡◌, ℕ, ◌+◌, ◌-◌, ◌*◌, ◌<◌, ◌≤◌, Bool, true, false, cond, ◌&&◌, eqb, leb, List, length, take, drop, Some, None, Ok, Err, Option, Result, sym, refl, ap, ◌∙◌, subst, arith, length-drop}
 use Rattle.std.proofs.lemmas.List.{take_all}
 use Rattle.std.proofs.lemmas.Bool.{and_from, and_parts, cond-false, cond-true, eq-eqb, eqb-true, leb-true, ltb-true}
 use Rattle.words.specs.declared.fault.Fault.{Fault}
 use Rattle.words.specs.declared.word.Word.{Word}
-use Rattle.words.specs.declared.word.Word.TheVariants as Word
 use Rattle.words.specs.Fault.{misplaced, malformed_label, unknown_reading, wrong_end}
 use Rattle.words.specs.Label.{between, every, label_words, well_formed}
 use Rattle.words.specs.Look.{Found, found, due, known, reading_at, complete, site_from}
 use Rattle.words.specs.Token
 use Rattle.words.specs.Token.{Entry, EntryAt, FaultAt, after, begins, follows_site, follows_penalty, sites_in}
-use Rattle.words.specs.Word.{word_at, word_of, bits_at, words}
+use Rattle.words.specs.Word.{word_at, words}
 
 -- the rest of a slice from i on
 pub rest_is : (b : List ℕ) (i : ℕ) → take (length b - i) (drop i b) ≡ drop i b

@@ -1,9 +1,9 @@
 -- Feeding a survey with a past leaves it with the file's adds behind that past.
-use Rattle.std.proofs.Common.{◌≡◌, ℕ, ◌+◌, Bool, List, [], ◌∷◌, Ok, Err, Option, sym, refl, subst}
+use Rattle.std.proofs.Common.{◌≡◌, ℕ, ◌+◌, Bool, List, ◌∷◌, Ok, Err, Option, sym, refl, subst}
 use Rattle.geometry.specs.Lifts.{Lift}
 use Rattle.mesh.specs.Surveys.{Answer, Call, Eightfold, add, accepted}
 use Rattle.survey.specs.declared.open.Open.{Open}
-use Rattle.survey.specs.Pasts.{Ran, Survey, adds as another, opened}
+use Rattle.survey.specs.Pasts.{Ran, adds as another, opened}
 use Rattle.survey.specs.States.{meaning}
 use Rattle.survey.specs.Tables.{Lent}
 use Rattle.survey.proofs.AnyRun.{kept}

@@ -1,5 +1,5 @@
 -- Feeding a survey, one token more at a time. Assumes nothing.
-use Rattle.std.proofs.Common.{◌≡◌, ℕ, ◌+◌, Bool, true, false, List, [], ◌∷◌, map, length, Some, None, Ok, Err, Option, Result, sym, refl, ap, ◌∙◌, subst, arith}
+use Rattle.std.proofs.Common.{◌≡◌, ℕ, ◌+◌, Bool, true, false, List, [], ◌∷◌, map, length, Some, None, Ok, Err, Option, sym, refl, ap, ◌∙◌, subst, arith}
 use Rattle.geometry.specs.Lifts.{Lift}
 use Rattle.geometry.specs.Spots.{Spot}
 use Rattle.survey.specs.declared.refusal.Refusal.{Refusal as Refused}
@@ -7,7 +7,6 @@ use Rattle.words.specs.declared.fault.Fault.{Fault}
 use Rattle.words.specs.declared.reader.Reader.{Reader}
 use Rattle.words.specs.declared.token.Site.{Site}
 use Rattle.words.specs.declared.token.Token.{Token}
-use Rattle.words.specs.declared.token.Token.TheVariants as Token
 use Rattle.words.specs.Contents
 use Rattle.words.specs.Contents.{Ending, Reads, complete, refused, label_after}
 use Rattle.words.specs.Fault.{wrong_length}
@@ -16,7 +15,7 @@ use Rattle.words.specs.Feed.{Added, Addition, Adds, Fed, FedBy, Feeds, MeansAdds
 use Rattle.words.specs.Reader.{Ended, Moved, Next, Stopped, file, well_sized}
 use Rattle.words.specs.Reader as Reading
 use Rattle.words.specs.Token.{Entry, EntryAt, FaultAt, entry, label, site, end}
-use Rattle.words.proofs.Files.{ends, never, next_ended, next_moved}
+use Rattle.words.proofs.Files.{ends, never, next_moved}
 
 -- the token is no site
 abbrev pub NoSite : {R : Type 0} → Token R → Type 0

@@ -1,10 +1,8 @@
 -- What the reader finds at a word, worked out step by step. `Token` says the same as a relation. Assumes nothing.
 use Rattle.std.specs.Prelude.{ℕ, ◌+◌, cond, ◌&&◌, List, take, Some, None, Ok, Err, Option, Result, ◌==◌}
 use Rattle.words.specs.declared.fault.Fault.{Fault}
-use Rattle.words.specs.declared.token.Site.{Site}
 use Rattle.words.specs.declared.token.Token.{Token}
 use Rattle.words.specs.declared.word.Word.{Word}
-use Rattle.words.specs.declared.word.Word.TheVariants as Word
 use Rattle.words.specs.Fault.{misplaced, malformed_label, unknown_reading, wrong_end}
 use Rattle.words.specs.Label.{label_words, well_formed}
 use Rattle.words.specs.Token.{Entry, label, site, end, entry, after}

@@ -3,9 +3,7 @@ use Rattle.std.specs.Prelude.{◌≡◌, ℕ, ◌+◌, ◌*◌, Bool, true, fals
 use Rattle.words.specs.declared.fault.Fault.{Fault}
 use Rattle.words.specs.declared.token.Site.{Site}
 use Rattle.words.specs.declared.token.Token.{Token}
-use Rattle.words.specs.declared.token.Token.TheVariants as Token
 use Rattle.words.specs.declared.word.Word.{Word}
-use Rattle.words.specs.declared.word.Word.TheVariants as Word
 use Rattle.words.specs.Fault.{misplaced, malformed_label, unknown_reading, wrong_end}
 use Rattle.words.specs.Label.{label_words, well_formed}
 use Rattle.words.specs.Word.{word_at, words}

@@ -1,5 +1,7 @@
 //! The reader of survey files: 32-bit words, most significant byte first, that say the sites of a
 //! survey, the labels between them and the end.
+#![tactic(auto)]
+
 pub mod contents;
 pub mod fault;
 pub mod feed;

@@ -1,4 +1,4 @@
-use Rattle.std.proofs.Common.{◌∙◌, w64, SFits}
+use Rattle.std.proofs.Common.{w64, SFits}
 use Rattle.std.proofs.lemmas.Int.{to_z-of_z}
 use Rattle.geometry.specs.Sides.{side}
 use Rattle.geometry.specs.Depths.{depth}

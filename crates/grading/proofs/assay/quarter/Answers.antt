@@ -1,4 +1,4 @@
-use Rattle.std.proofs.Common.{◌≡◌, ◌^◌, ◌<◌, false, sym, ap, ◌∙◌, subst, arith}
+use Rattle.std.proofs.Common.{◌≡◌, false, sym, ap, subst}
 use lib.Ieee.{Float, binary64, div, of_bits}
 use lib.Ieee.Exact.{HasValue}
 use Rattle.grading.specs.Assay.{whole, amount}

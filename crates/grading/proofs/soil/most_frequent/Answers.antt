@@ -1,5 +1,5 @@
-use Rattle.std.proofs.Common.{◌≡◌, ◌-◌, ◌<◌, ◌≤◌, sym, ap, ◌∙◌, subst, arith}
-use Rattle.grading.specs.Soil.{Leads, votes, winner}
+use Rattle.std.proofs.Common.{◌≡◌, ◌-◌, sym, ap, ◌∙◌, subst, arith}
+use Rattle.grading.specs.Soil.{Leads, winner}
 use Rattle.grading.specs.Votes.{winner_leads, winner_takes, winner_stays}
 use Rattle.grading.proofs.soil.most_frequent.Goals as goal
 use Rattle.grading.proofs.soil.most_frequent.Goals.{then-count_of, else-count_of}

@@ -1,6 +1,5 @@
 use Rattle.std.proofs.Common.{◌-◌, map, vec_items}
 use Rattle.words.specs.Contents.{label_text}
-use Rattle.words.specs.Reader.{file}
 use Rattle.words.specs.Token.{entry}
 use Rattle.words.specs.Word.{words}
 use Rattle.words.proofs.Files.{Sofar}

@@ -1,7 +1,7 @@
 use Rattle.std.proofs.Common.{ℕ, ◌<◌, Bool, false, ◌||◌, List, map, length, get_or, take, sym, ap, ◌∙◌, subst}
 use Rattle.std.proofs.ByRecursion.{All-get_or}
 use Rattle.std.proofs.lemmas.List.{take_all}
-use Rattle.mesh.specs.Records.{row, face_at}
+use Rattle.mesh.specs.Records.{row}
 use Rattle.mesh.specs.Tetrahedra.{Triple, on}
 use Rattle.survey.specs.Cavity.{face_number, blank_face}
 use Rattle.survey.specs.Edges.{three}

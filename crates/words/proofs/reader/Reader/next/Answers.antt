@@ -1,7 +1,7 @@
-use Rattle.std.proofs.Common.{◌+◌, ◌≤◌, sym, refl, ap, ◌∙◌, arith}
+use Rattle.std.proofs.Common.{◌+◌, ◌≤◌, sym, refl, ap}
 use Rattle.std.proofs.lemmas.Result.{err_from_is_err_and}
 use Rattle.words.specs.Reader
-use Rattle.words.specs.Token.{EntryAt, entry, sites_in}
+use Rattle.words.specs.Token.{entry}
 use Rattle.words.proofs.Entries.{advances, found_entry, found_fault, sites_within}
 use Rattle.words.proofs.reader.Reader.next.Goals as goal
 

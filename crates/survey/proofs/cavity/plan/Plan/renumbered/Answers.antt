@@ -3,7 +3,7 @@ use Rattle.std.proofs.lemmas.Bool.{cond-true, cond-false}
 use Rattle.mesh.specs.Added.{rank}
 use Rattle.mesh.specs.Records.{row, neighbour, face_at, opposite, tet_of}
 use Rattle.mesh.specs.Tetrahedra.{Triple}
-use Rattle.survey.specs.Cavity.{gone, left, bare, noted}
+use Rattle.survey.specs.Cavity.{gone, left, bare}
 use Rattle.survey.specs.Plans.{records, flags}
 use Rattle.survey.proofs.Renumbering.{rank_mono, shell_length, renumbered_kept, renumbered_dropped}
 use Rattle.survey.proofs.cavity.plan.Plan.renumbered.Goals as goal
