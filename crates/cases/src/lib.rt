@@ -1,4 +1,6 @@
 //! Examples of the rules, tried on the library.
+#![tactic(auto)]
+
 #[cfg(test)]
 mod broken_tables;
 #[cfg(test)]
