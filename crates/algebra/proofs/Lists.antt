@@ -1,6 +1,6 @@
 -- Tests of a whole list, and how many elements pass one.
 use Rattle.std.proofs.Common.{◌≡◌, ℕ, zero, suc, ◌<◌, ◌≤◌, Bool, true, false, cond, ◌||◌, List, [], ◌∷◌, ◌++◌, map, length, get_or, count_by, filter, refl, ap, inl, inr, arith}
-use Rattle.std.specs.List.{ContainsAt as Has, AllByRecursion as All}
+use Rattle.std.specs.List.{ContainsAt as Has, AllByRecursion}
 use Rattle.std.proofs.ByRecursion.{has_get_or}
 use Rattle.std.proofs.lemmas.List.Sums.{sum_by-cons, get_or-le-sum_by}
 use Rattle.std.proofs.lemmas.Bool.{and_parts, or_cases, or_left, or_right, false≢true, cases_Bool}
@@ -14,7 +14,7 @@ or_assoc : (a b c : Bool) → (a || (b || c)) ≡ ((a || b) || c)
 or_assoc true b c = refl
 or_assoc false b c = refl
 
-pub all_true : {X : Type 0} (p : X → Bool) (xs : List X) → all p xs ≡ true → All (λ x. p x ≡ true) xs
+pub all_true : {X : Type 0} (p : X → Bool) (xs : List X) → all p xs ≡ true → AllByRecursion (λ x. p x ≡ true) xs
 all_true p [] h = tt
 all_true p (x ∷ xs) h = let hs = and_parts (p x) (all p xs) h in (hs.0, all_true p xs hs.1)
 
@@ -39,7 +39,7 @@ pub some_kept : {X : Type 0} (p : X → Bool) (xs : List X) → some p xs ≡ tr
 some_kept p (x ∷ xs) h = elim (cases_Bool (p x)) [ inl e ↦ rw e (omega arith) | inr e ↦ rw e (some_kept p xs (rw e at h)) ]
 some_kept p [] h = absurd (false≢true h)
 
-pub all_both : {X : Type 0} (A B C : X → Type 0) → ((x : X) → A x → B x → C x) → (xs : List X) → All A xs → All B xs → All C xs
+pub all_both : {X : Type 0} (A B C : X → Type 0) → ((x : X) → A x → B x → C x) → (xs : List X) → AllByRecursion A xs → AllByRecursion B xs → AllByRecursion C xs
 all_both A B C f [] a b = tt
 all_both A B C f (x ∷ xs) a b = (f x a.0 b.0, all_both A B C f xs a.1 b.1)
 

@@ -1,7 +1,7 @@
 -- Sums over lists: of equal terms, of parts, and of terms that cancel in pairs.
 use Rattle.std.proofs.Common.{◌≡◌, ℕ, ◌+◌, ◌≤◌, Bool, true, false, cond, not, List, [], ◌∷◌, ◌++◌, map, length, ℤ, pos, ◌+ℤ◌, neg_ℤ, ◌<ℤ◌, sum_by, count_by, filter, sym, refl, ap, ◌∙◌, inl, inr, arith}
 use mathlib.Core.Path.{fun_ext}
-use Rattle.std.specs.List.{AllByRecursion as All}
+use Rattle.std.specs.List.{AllByRecursion}
 use Rattle.std.proofs.lemmas.Int.{ints}
 use Rattle.std.proofs.lemmas.List.Sums.{sum_by-cons}
 use Rattle.std.proofs.lemmas.Bool.{cases_Bool}
@@ -11,14 +11,14 @@ use Rattle.algebra.proofs.Lists.{bit}
 -- ---- sums of natural numbers
 
 -- terms that are equal wherever P holds
-pub sum_by_same : {X : Type 0} (P : X → Type 0) (f g : X → ℕ) → ((x : X) → P x → f x ≡ g x) → (xs : List X) → All P xs → sum_by f xs ≡ sum_by g xs
+pub sum_by_same : {X : Type 0} (P : X → Type 0) (f g : X → ℕ) → ((x : X) → P x → f x ≡ g x) → (xs : List X) → AllByRecursion P xs → sum_by f xs ≡ sum_by g xs
 sum_by_same P f g e [] h = refl
 sum_by_same P f g e (x ∷ xs) h = omega (arith, sum_by-cons f x xs, sum_by-cons g x xs, e x h.0, sum_by_same P f g e xs h.1)
 
 pub sum_by_alike : {X : Type 0} (f g : X → ℕ) → ((x : X) → f x ≡ g x) → (xs : List X) → sum_by f xs ≡ sum_by g xs
 sum_by_alike {X} f g h xs = ap (λ (k : X → ℕ). sum_by k xs) (fun_ext h)
 
-pub sum_by_zero : {X : Type 0} (P : X → Type 0) (f : X → ℕ) → ((x : X) → P x → f x ≡ 0) → (xs : List X) → All P xs → sum_by f xs ≡ 0
+pub sum_by_zero : {X : Type 0} (P : X → Type 0) (f : X → ℕ) → ((x : X) → P x → f x ≡ 0) → (xs : List X) → AllByRecursion P xs → sum_by f xs ≡ 0
 sum_by_zero P f e [] h = refl
 sum_by_zero P f e (x ∷ xs) h = omega (arith, sum_by-cons f x xs, e x h.0, sum_by_zero P f e xs h.1)
 
@@ -40,7 +40,7 @@ sum_by_split f p (x ∷ xs) = elim (p x) as (λ b. sum_by f (x ∷ xs) ≡ sum_b
 
 -- ---- sums of whole numbers
 
-pub sum_z_same : {X : Type 0} (P : X → Type 0) (f g : X → ℤ) → ((x : X) → P x → f x ≡ g x) → (xs : List X) → All P xs → sum_z f xs ≡ sum_z g xs
+pub sum_z_same : {X : Type 0} (P : X → Type 0) (f g : X → ℤ) → ((x : X) → P x → f x ≡ g x) → (xs : List X) → AllByRecursion P xs → sum_z f xs ≡ sum_z g xs
 sum_z_same P f g e [] h = refl
 sum_z_same P f g e (x ∷ xs) h = omega (arith, ints, e x h.0, sum_z_same P f g e xs h.1)
 
@@ -91,7 +91,7 @@ sum_z_split f p (x ∷ xs) = elim (p x) as (λ b. sum_z f (x ∷ xs) ≡ sum_z f
 ]
 
 -- terms above zero
-pub sum_z_positive : {X : Type 0} (f : X → ℤ) (xs : List X) → All (λ x. pos 0 <ℤ f x) xs → 1 ≤ length xs → pos 0 <ℤ sum_z f xs
+pub sum_z_positive : {X : Type 0} (f : X → ℤ) (xs : List X) → AllByRecursion (λ x. pos 0 <ℤ f x) xs → 1 ≤ length xs → pos 0 <ℤ sum_z f xs
 sum_z_positive f [] h l = absurd (omega arith)
 sum_z_positive f (x ∷ []) h l = omega (arith, ints, h.0)
 sum_z_positive f (x ∷ y ∷ xs) h l = omega (arith, ints, h.0, sum_z_positive f (y ∷ xs) h.1 (omega arith))
@@ -116,7 +116,7 @@ picked p a (x ∷ xs) = go (p x) (sum_by-cons (λ x. bit (p x)) x xs) (picked p 
 -- Terms of which each that is not kept has one partner, its negative, do not count.
 pub cancel : {X : Type 0} (mate : X → X → Bool) (keep : X → Bool) (g : X → ℤ) (xs : List X)
     → ((p q : X) → mate p q ≡ mate q p) → ((p q : X) → mate p q ≡ true → g p ≡ neg_ℤ (g q))
-    → All (Paired mate keep xs) xs → sum_z g (filter keep xs) ≡ sum_z g xs
+    → AllByRecursion (Paired mate keep xs) xs → sum_z g (filter keep xs) ≡ sum_z g xs
 cancel {X} mate keep g xs both minus split =
     omega (
       arith,

@@ -1,6 +1,6 @@
 -- Sums of whole numbers over a list.
 use Rattle.std.specs.Prelude.{◌≡◌, Bool, true, false, not, ◌⊎◌, List, [], ◌∷◌, ◌++◌, ℤ, pos, ◌+ℤ◌, neg_ℤ, count_by, filter}
-use Rattle.std.specs.List.{AllByRecursion as All}
+use Rattle.std.specs.List.{AllByRecursion}
 
 abbrev pub sum_z : {X : Type 0} → (X → ℤ) → List X → ℤ
 sum_z f [] = pos 0
@@ -17,4 +17,4 @@ pub record SumLaws (X : Type 0) : Type 0 where
   -- elements whose mate has the opposite value do not count
   pub cancel : (mate : X → X → Bool) (keep : X → Bool) (g : X → ℤ) (xs : List X)
       → ((p q : X) → mate p q ≡ mate q p) → ((p q : X) → mate p q ≡ true → g p ≡ neg_ℤ (g q))
-      → All (Paired mate keep xs) xs → sum_z g (filter keep xs) ≡ sum_z g xs
+      → AllByRecursion (Paired mate keep xs) xs → sum_z g (filter keep xs) ≡ sum_z g xs

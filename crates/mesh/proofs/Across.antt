@@ -1,6 +1,6 @@
 -- What lies on the other side of a face of a balanced mesh.
 use Rattle.std.proofs.Common.{◌≡◌, ℕ, ◌+◌, ◌<◌, ◌≤◌, Bool, true, false, eqb, ◌≢◌, ◌⊎◌, List, [], ◌∷◌, length, get_or, count_by, sym, ap, ◌∙◌, inl, inr, arith, lit≤}
-use Rattle.std.specs.List.{ContainsAt as Has, AllByRecursion as All}
+use Rattle.std.specs.List.{ContainsAt as Has, AllByRecursion}
 use Rattle.std.proofs.ByRecursion.{all_kept_by, all-has, All-get_or, has_get_or, kept_by_passes}
 use Rattle.std.proofs.lemmas.Bool.{cases_Bool, both_ways, eqb-true}
 use Rattle.algebra.proofs.Lists.{bit, counted, counts, only_one}
@@ -15,7 +15,7 @@ abbrev pub Beyond : List Tet → Triple → Type 0
 Beyond ts f = (oriented big f.x f.y f.z ≡ true) ⊎ ((u : Tet) × Has ts u × (oriented u f.y f.x f.z ≡ true))
 
 -- what lies beyond a shell face
-pub beyond : (conflict : Tet → Bool) (ts : List Tet) → All Proper ts → Balanced ts → (p : Facet) → Has (shell (dropped conflict ts)) p → Beyond (kept conflict ts) (triple p)
+pub beyond : (conflict : Tet → Bool) (ts : List Tet) → AllByRecursion Proper ts → Balanced ts → (p : Facet) → Has (shell (dropped conflict ts)) p → Beyond (kept conflict ts) (triple p)
 beyond conflict ts h b p m = elim (cases_Bool (oriented big f.x f.y f.z)) [
   | inl e ↦ inl e
   | inr e ↦
@@ -32,7 +32,7 @@ beyond conflict ts h b p m = elim (cases_Bool (oriented big f.x f.y f.z)) [
     f : Triple
     f = triple p
 
-    propers : All Proper go
+    propers : AllByRecursion Proper go
     propers = all_kept_by conflict Proper ts h
 
     lone : Facet → Bool
@@ -69,7 +69,7 @@ either : (h p q : Bool) → bit h ≡ bit p + bit q → q ≡ true → h ≡ tru
 either h p q e k = grind arith
 
 -- each face of a balanced mesh is one or the other
-pub outer_or_inner : (ts : List Tet) → All Proper ts → Balanced ts → (r : ℕ) → r < length ts → (s : Slot) → Outer ts r (face (get_or ts r big) s) ⊎ Inner ts r (face (get_or ts r big) s)
+pub outer_or_inner : (ts : List Tet) → AllByRecursion Proper ts → Balanced ts → (r : ℕ) → r < length ts → (s : Slot) → Outer ts r (face (get_or ts r big) s) ⊎ Inner ts r (face (get_or ts r big) s)
 outer_or_inner ts h b r l s = elim (cases_Bool (on big)) [
   | inl e ↦ inl (record {
     outer = e;

@@ -1,7 +1,7 @@
 -- The mesh is sound after any past.
 use Rattle.std.proofs.Common.{◌≡◌, ℕ, zero, suc, ◌+◌, ◌<◌, true, ◌⊎◌, List, [], ◌∷◌, ◌++◌, length, pos, ◌≤ℤ◌, sym, refl, ap, ◌∙◌, subst, inl, inr, arith, lit≤}
 use lib.Signed.{lt_z}
-use Rattle.std.specs.List.{AllByRecursion as All}
+use Rattle.std.specs.List.{AllByRecursion}
 use Rattle.std.proofs.ByRecursion.{All-weaker}
 use Rattle.std.proofs.lemmas.List.{map_push, length_push, get_or_append_left, get_or_push}
 use Rattle.std.proofs.lemmas.Int.{ints}
@@ -176,7 +176,7 @@ module _ {R : Type 0} (L : Lift) (G : Grading R) (tables : Tables) where
   pub past_sound : (past : List (Call R × Answer)) (s : State R) → Allowed L G tables past s → SoundMesh L (points s) s.mesh
   past_sound past s h = invariant_sound L (points s) s.mesh (past_keeps_order past s h)
 
-  pub past_adds_up : Eightfold G → (past : List (Call R × Answer)) (s : State R) → Allowed L G tables past s → All (λ x. AddsUp x.1) past
+  pub past_adds_up : Eightfold G → (past : List (Call R × Answer)) (s : State R) → Allowed L G tables past s → AllByRecursion (λ x. AddsUp x.1) past
   past_adds_up k [] s h = tt
   past_adds_up k (x ∷ past) s h = (step_adds_up k h.0 x.0 x.1 s h.2 (past_keeps_order past h.0 h.1), past_adds_up k past h.0 h.1)
 

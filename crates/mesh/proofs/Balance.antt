@@ -1,6 +1,6 @@
 -- Adding a point keeps a mesh balanced where the shell of what it drops is closed.
 use Rattle.std.proofs.Common.{◌≡◌, ℕ, ◌+◌, ◌<◌, ◌≤◌, Bool, true, false, cond, not, eqb, List, [], ◌∷◌, map, count_by, refl, ap, ◌∙◌, arith}
-use Rattle.std.specs.List.{AllByRecursion as All}
+use Rattle.std.specs.List.{AllByRecursion}
 use Rattle.std.proofs.ByRecursion.{All-weaker, all_kept_by, All-append, All-map}
 use Rattle.std.proofs.lemmas.List.Sums.{sum_by-append, count_by-le-length}
 use Rattle.std.proofs.lemmas.Bool.Decides.{nat_tests}
@@ -62,7 +62,7 @@ low_oriented n t h x y z e = simp (
   low_turns n (face t fourth) h.a h.c h.b x y z e,
 )
 
-low_orientations : (n : ℕ) (ts : List Tet) → All (Under n) ts → (x y z : ℕ) → on n (tri x y z) ≡ true → orientations ts x y z ≡ 0
+low_orientations : (n : ℕ) (ts : List Tet) → AllByRecursion (Under n) ts → (x y z : ℕ) → on n (tri x y z) ≡ true → orientations ts x y z ≡ 0
 low_orientations n ts h x y z e = sum_by_zero (Under n) (λ t. bit (oriented t x y z)) (λ t k. low_oriented n t k x y z e) ts h
 
 on_flipped : (n x y z : ℕ) → on n (tri y x z) ≡ on n (tri x y z)
@@ -71,7 +71,7 @@ on_flipped n x y z = grind arith
 -- ---- the counts of the new mesh
 
 -- an oriented face and its reverse differ in the shell as they do in all
-shell_turns : (ts : List Tet) → All Proper ts → ((x y z : ℕ) → orientations ts x y z ≤ 1) → (x y z : ℕ)
+shell_turns : (ts : List Tet) → AllByRecursion Proper ts → ((x y z : ℕ) → orientations ts x y z ≤ 1) → (x y z : ℕ)
     → count_by (λ p. turns (triple p) x y z) (shell ts) + orientations ts y x z ≡ count_by (λ p. turns (triple p) y x z) (shell ts) + orientations ts x y z
 shell_turns ts h once x y z = omega (arith, shell_counts ts h once (λ f. turns f x y z) (λ f. turns_turned f x y z), flip (shell ts), flip (facets ts), orientations_facets ts h x y z, orientations_facets ts h y x z)
   where
@@ -88,7 +88,7 @@ new_once : (e : ℕ → ℕ → ℕ) (n x y z k s d : ℕ) → e z y ≤ 1 → e
 new_once e n x y z k s d zy xz yx low old part = grind (arith, nat_tests)
 
 -- what holds of each tetrahedron holds of those of the shell
-pub all_shell : (P : Tet → Type 0) (ts : List Tet) → All P ts → All (λ p. P p.of) (shell ts)
+pub all_shell : (P : Tet → Type 0) (ts : List Tet) → AllByRecursion P ts → AllByRecursion (λ p. P p.of) (shell ts)
 all_shell P ts h = all_kept_by (λ p. eqb (count_by (has_face (triple p)) ts) 1) (λ p. P p.of) (facets ts) (all_facets (λ p. P p.of) ts (All-weaker P (λ t. (s : Slot) → P t) (λ t k s. k) ts h))
 
 module _ (conflict : Tet → Bool) (ts : List Tet) where
@@ -104,12 +104,12 @@ module _ (conflict : Tet → Bool) (ts : List Tet) where
   pub dropped_once : Balanced ts → (x y z : ℕ) → orientations go x y z ≤ 1
   dropped_once b x y z = omega (arith, orientations_split x y z, b.once x y z)
 
-  module _ (n : ℕ) (h : All (WellFormed n) ts) where
-    dropped_formed : All (λ p. WellFormed n p.of) (shell go)
+  module _ (n : ℕ) (h : AllByRecursion (WellFormed n) ts) where
+    dropped_formed : AllByRecursion (λ p. WellFormed n p.of) (shell go)
     dropped_formed = all_shell (WellFormed n) go (all_kept_by conflict (WellFormed n) ts h)
 
     -- the tetrahedra of the new mesh are well formed
-    pub after_formed : All (WellFormed (n + 1)) (after conflict ts n)
+    pub after_formed : AllByRecursion (WellFormed (n + 1)) (after conflict ts n)
     after_formed = All-append (WellFormed (n + 1)) stay (map (joined n) (shell go))
         (all_kept_by (λ t. not (conflict t)) (WellFormed (n + 1)) ts (All-weaker (WellFormed n) (WellFormed (n + 1)) (λ t k. record { proper = k.proper; under = omega arith }) ts h))
         (All-map (WellFormed (n + 1)) (joined n) (shell go) (All-weaker (λ p. WellFormed n p.of) (λ p. WellFormed (n + 1) (joined n p)) (λ p k. joined_formed n p.of k p.lacks) (shell go) dropped_formed))
@@ -125,7 +125,7 @@ module _ (conflict : Tet → Bool) (ts : List Tet) where
     after_balanced l b shut =
         let propers = all_kept_by conflict Proper ts (All-weaker (WellFormed n) Proper (λ t k. k.proper) ts h) in
         let lows = all_kept_by (λ t. not (conflict t)) (Under n) ts (All-weaker (WellFormed n) (Under n) (λ t k. k.under) ts h) in
-        let big_low : All (Under n) (big ∷ []) = ((big_formed n l).under, tt) in
+        let big_low : AllByRecursion (Under n) (big ∷ []) = ((big_formed n l).under, tt) in
         let once = dropped_once b in
         let level = edges_level go propers once in
         let few = edges_once go propers once shut in

@@ -1,7 +1,7 @@
 -- A mesh that keeps the invariant is sound: its tetrahedra meet face to face.
 use Rattle.std.proofs.Common.{◌≡◌, ℕ, ◌<◌, true, false, List, length, get_or, ℤ, pos, ◌≤ℤ◌, ◌<ℤ◌, sym, ◌∙◌, inl, inr, arith}
 use lib.Signed.{lt_z}
-use Rattle.std.specs.List.{AllByRecursion as All}
+use Rattle.std.specs.List.{AllByRecursion}
 use Rattle.std.proofs.ByRecursion.{All-weaker, All-get_or, All-from_get_or}
 use Rattle.std.proofs.lemmas.Int.{ints}
 use Rattle.std.proofs.lemmas.Bool.Decides.{nat_tests}
@@ -41,7 +41,7 @@ module _ (L : Lift) (ps : List Spot) where
   side_placed t = sym (side_ground L (numbered ps t.a) (numbered ps t.b) (numbered ps t.c) (numbered ps t.d))
 
   module _ (ts : List Tet) (g : Invariant placed (length ps) ts) where
-    propers : All Proper ts
+    propers : AllByRecursion Proper ts
     propers = All-weaker (WellFormed (length ps)) Proper (λ t s. s.proper) ts g.formed
 
     outer : (r : ℕ) (s : Slot) → Outer ts r (face (get_or ts r big) s) → OuterFace L ps ts r s
@@ -77,7 +77,7 @@ module _ (L : Lift) (ps : List Spot) where
     invariant_sound = record {
       positive = All-weaker (Fit placed (length ps)) (λ t. pos 0 <ℤ side_of ps t) (λ t f. rw (side_placed t) f.positive) ts g.fit;
       faces = λ r l s. elim (outer_or_inner ts propers g.balanced r l s) [ inl o ↦ inl (outer r s o) | inr i ↦ inr (shared r s i) ];
-      clear = All-weaker (Fit placed (length ps)) (λ t. All (λ e. conflicting ps L e t ≡ false) ps) (λ t f. All-from_get_or (λ e. conflicting ps L e t ≡ false) ps (bare 0 0 0) (λ q l. not_positive (tet_depth placed t (placed q)) (f.clear q l))) ts g.fit;
+      clear = All-weaker (Fit placed (length ps)) (λ t. AllByRecursion (λ e. conflicting ps L e t ≡ false) ps) (λ t f. All-from_get_or (λ e. conflicting ps L e t ≡ false) ps (bare 0 0 0) (λ q l. not_positive (tet_depth placed t (placed q)) (f.clear q l))) ts g.fit;
       member = g.member;
       total = sum_z_alike (side_of ps) (tet_side placed) side_placed ts ∙ g.total;
     }

@@ -1,7 +1,7 @@
 -- Adding a point inside the big tetrahedron keeps the invariant of a mesh.
 use Rattle.std.proofs.Common.{◌≡◌, ℕ, ◌+◌, ◌<◌, ◌≤◌, Bool, true, false, not, ◌||◌, List, map, length, ℤ, pos, ◌≤ℤ◌, ◌<ℤ◌, sym, ◌∙◌, inl, inr, arith, below_more}
 use lib.Signed.{lt_z}
-use Rattle.std.specs.List.{ContainsAt as Has, AllByRecursion as All}
+use Rattle.std.specs.List.{ContainsAt as Has, AllByRecursion}
 use Rattle.std.proofs.ByRecursion.{All-weaker, All-append, All-map, all-has, all_has_itself, all_kept_by, kept_by_passes}
 use Rattle.std.proofs.lemmas.Int.{ints}
 use Rattle.std.proofs.lemmas.Bool.{not-true, or_cases, or_left, or_right}
@@ -35,9 +35,9 @@ pub record Invariant (P : ℕ → Lifted) (n : ℕ) (ts : List Tet) : Type 0 whe
   pub four : 4 ≤ n
   pub corners : Corners P
   pub within : (q : ℕ) → q < n → Within (P q)
-  pub formed : All (WellFormed n) ts
+  pub formed : AllByRecursion (WellFormed n) ts
   pub balanced : Balanced ts
-  pub fit : All (Fit P n) ts
+  pub fit : AllByRecursion (Fit P n) ts
   pub member : (q : ℕ) → q < n → some (has q) ts ≡ true
   pub total : sum_z (tet_side P) ts ≡ whole_side
 
@@ -128,20 +128,20 @@ fit_joined P n p h = record {
 abbrev rim : (Tet → Bool) → List Tet → List Facet
 rim conflict ts = shell (dropped conflict ts)
 
-module _ (P : ℕ → Lifted) (n : ℕ) (ts : List Tet) (conflict : Tet → Bool) (g : Invariant P n ts) (inside : Inside (P n)) (told : All (λ t. conflict t ≡ lt_z (pos 0) (tet_depth P t (P n))) ts) where
-  known : All (Known P n conflict) ts
+module _ (P : ℕ → Lifted) (n : ℕ) (ts : List Tet) (conflict : Tet → Bool) (g : Invariant P n ts) (inside : Inside (P n)) (told : AllByRecursion (λ t. conflict t ≡ lt_z (pos 0) (tet_depth P t (P n))) ts) where
+  known : AllByRecursion (Known P n conflict) ts
   known =
       let both : Tet → Type 0 = λ t. WellFormed n t × Fit P n t in
       all_both both (λ t. conflict t ≡ lt_z (pos 0) (tet_depth P t (P n))) (Known P n conflict) (λ t b e. record { formed = b.0; fit = b.1; told = e }) ts
       (all_both (WellFormed n) (Fit P n) both (λ t s f. (s, f)) ts g.formed g.fit) told
 
-  going : All (Goes P n) (dropped conflict ts)
+  going : AllByRecursion (Goes P n) (dropped conflict ts)
   going = all_both (Known P n conflict) (λ t. conflict t ≡ true) (Goes P n) (goes P n conflict) (dropped conflict ts) (all_kept_by conflict (Known P n conflict) ts known) (kept_by_passes conflict ts)
 
-  staying : All (Stays P n) (kept conflict ts)
+  staying : AllByRecursion (Stays P n) (kept conflict ts)
   staying = all_both (Known P n conflict) (λ t. not (conflict t) ≡ true) (Stays P n) (keeps P n conflict) (kept conflict ts) (all_kept_by (λ t. not (conflict t)) (Known P n conflict) ts known) (kept_by_passes (λ t. not (conflict t)) ts)
 
-  propers : All Proper ts
+  propers : AllByRecursion Proper ts
   propers = All-weaker (WellFormed n) Proper (λ t s. s.proper) ts g.formed
 
   -- a face around what goes, by what lies beyond it
@@ -186,10 +186,10 @@ module _ (P : ℕ → Lifted) (n : ℕ) (ts : List Tet) (conflict : Tet → Bool
       dq : (q : ℕ) → q < n → depth w (P x) (P y) (P z) (P q) ≤ℤ pos 0
       dq q l = omega (arith, ints, h.fit.clear q l, depth_at P p.of p.lacks (P q))
 
-  fresh : All (λ p. New P n (triple p)) (rim conflict ts)
+  fresh : AllByRecursion (λ p. New P n (triple p)) (rim conflict ts)
   fresh = all_both (Has (rim conflict ts)) (λ p. Goes P n p.of) (λ p. New P n (triple p)) new (rim conflict ts) (all_has_itself (rim conflict ts)) (all_shell (Goes P n) (dropped conflict ts) going)
 
-  after_fit : All (Fit P (n + 1)) (after conflict ts n)
+  after_fit : AllByRecursion (Fit P (n + 1)) (after conflict ts n)
   after_fit = All-append (Fit P (n + 1)) (kept conflict ts) (map (joined n) (rim conflict ts))
       (All-weaker (Stays P n) (Fit P (n + 1)) (fit_kept P n) (kept conflict ts) staying)
       (All-map (Fit P (n + 1)) (joined n) (rim conflict ts) (All-weaker (λ p. New P n (triple p)) (λ p. Fit P (n + 1) (joined n p)) (fit_joined P n) (rim conflict ts) fresh))

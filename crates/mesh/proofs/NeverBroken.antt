@@ -1,6 +1,6 @@
 -- No call that the rules allow is answered with 3: a survey with such a past is never found broken.
 use Rattle.std.proofs.Common.{◌≡◌, ℕ, ◌≢◌, List, [], ◌∷◌, sym, refl, ap, ◌∙◌, arith}
-use Rattle.std.specs.List.{AllByRecursion as All}
+use Rattle.std.specs.List.{AllByRecursion}
 use Rattle.geometry.specs.Lifts.{Lift}
 use Rattle.geometry.specs.Spots.{Spot, bare}
 use Rattle.mesh.specs.Adding.{Adds, off_grid, unpermitted, unadmitted, points_full, place_taken, no_conflict, tetrahedra_full, shell_open, point_vanishes, added}
@@ -47,6 +47,6 @@ module _ {R : Type 0} (L : Lift) (G : Grading R) (tables : Tables) where
   step_unbroken s c a e (locates {x} {y} {z} _ h) = locates_unbroken s (bare x y z) a h
   step_unbroken s c a e (states _) = other a 0 refl (λ z. omega arith)
 
-  pub past_unbroken : (past : List (Call R × Answer)) (s : State R) → Allowed L G tables past s → All (λ x. x.1 ≢ refused 3) past
+  pub past_unbroken : (past : List (Call R × Answer)) (s : State R) → Allowed L G tables past s → AllByRecursion (λ x. x.1 ≢ refused 3) past
   past_unbroken [] s h = tt
   past_unbroken (x ∷ past) s h = (step_unbroken h.0 x.0 x.1 s h.2, past_unbroken past h.0 h.1)

@@ -1,6 +1,6 @@
 -- The numbers that pass a test, by their place among them, and what a filter keeps by its numbers.
 use Rattle.std.proofs.Common.{◌≡◌, ℕ, zero, suc, ◌+◌, ◌*◌, ◌/◌, ◌%◌, ◌<◌, ◌≤◌, Bool, true, false, cond, ◌&&◌, List, [], ◌∷◌, ◌++◌, map, length, get_or, take, count_by, filter, sym, refl, ap, ◌∙◌, inl, inr, ⊎_elim, add-one, one-add, arith}
-use Rattle.std.specs.List.{prefix_len, AllByRecursion as All}
+use Rattle.std.specs.List.{prefix_len, AllByRecursion}
 use Rattle.std.proofs.lemmas.List.Elements.{filter_more}
 use Rattle.std.proofs.ByRecursion.{All-append, All-weaker}
 use Rattle.std.proofs.lemmas.List.{length-append, get_or_append_left, get_or_at, take_all, map-append}
@@ -21,13 +21,13 @@ pub rank_low : (p : ℕ → Bool) (n : ℕ) → rank p n ≤ n
 rank_low p zero = omega arith
 rank_low p (suc n) = elim (p n) as (λ b. rank p n + cond b 1 0 ≤ suc n) [ true ↦ omega (arith, rank_low p n) | false ↦ omega (arith, rank_low p n) ]
 
-pub passing_pass : (p : ℕ → Bool) (n : ℕ) → All (λ k. (k < n) × (p k ≡ true)) (passing p n)
+pub passing_pass : (p : ℕ → Bool) (n : ℕ) → AllByRecursion (λ k. (k < n) × (p k ≡ true)) (passing p n)
 passing_pass p zero = tt
 passing_pass p (suc n) = All-append (λ k. (k < suc n) × (p k ≡ true)) (passing p n) (cond (p n) (n ∷ []) [])
     (All-weaker (λ k. (k < n) × (p k ≡ true)) (λ k. (k < suc n) × (p k ≡ true)) (λ k h. (omega arith, h.1)) (passing p n) (passing_pass p n))
     (last (p n) refl)
   where
-    last : (b : Bool) → p n ≡ b → All (λ k. (k < suc n) × (p k ≡ true)) (cond b (n ∷ []) [])
+    last : (b : Bool) → p n ≡ b → AllByRecursion (λ k. (k < suc n) × (p k ≡ true)) (cond b (n ∷ []) [])
     last true e = ((omega arith, e), tt)
     last false e = tt
 
@@ -60,7 +60,7 @@ passing_same : (p q : ℕ → Bool) (n : ℕ) → ((k : ℕ) → k < n → p k �
 passing_same p q zero h = refl
 passing_same p q (suc n) h = rw (h n (omega arith), passing_same p q n (λ k l. h k (omega arith)))
 
-map_same : {X Y : Type 0} (f g : X → Y) (xs : List X) → All (λ x. f x ≡ g x) xs → map f xs ≡ map g xs
+map_same : {X Y : Type 0} (f g : X → Y) (xs : List X) → AllByRecursion (λ x. f x ≡ g x) xs → map f xs ≡ map g xs
 map_same f g [] h = refl
 map_same f g (x ∷ xs) h = rw (h.0, map_same f g xs h.1)
 

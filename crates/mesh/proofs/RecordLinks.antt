@@ -1,6 +1,6 @@
 -- The records after an add to whole records of a balanced mesh are whole.
 use Rattle.std.proofs.Common.{◌≡◌, ℕ, ◌+◌, ◌-◌, ◌*◌, ◌/◌, ◌%◌, ◌<◌, ◌≤◌, Bool, true, false, cond, not, ◌||◌, eqb, ltb, ◌≢◌, List, map, length, get_or, filter, sym, refl, ap, ◌∙◌, subst, inl, inr, ⊎_elim, arith}
-use Rattle.std.specs.List.{prefix_len, AllByRecursion as All}
+use Rattle.std.specs.List.{prefix_len, AllByRecursion}
 use Rattle.std.proofs.ByRecursion.{All-get_or}
 use Rattle.std.proofs.lemmas.List.{length-append, length-map, get_or_append_left, get_or-append_right, get_or-map}
 use Rattle.std.proofs.lemmas.Bool.{cases_Bool, cases_eq, cases_lt, both_ways, and_from, and_parts, or_cases, or_parts, or_from, or_right, eqb-true, eqb-false, eq-eqb, ne_eqb, not-true, not-false, not_from_true, not_from_false, ltb-true, cond-true, cond-false}
@@ -306,8 +306,8 @@ module _ (c : Tet → Bool) (n : ℕ) (rs : List TetRecord) where
               (λ z. lands_beside)
 
   module _ (w : Whole n rs) (b : Balanced (mesh_of rs)) (low : 4 ≤ n) (shut : closed (shell (filter c (mesh_of rs))) ≡ true) where
-    new_formed : All (WellFormed (n + 1)) (mesh_of new)
-    new_formed = subst (All (WellFormed (n + 1))) (sym (after_read c n rs w b)) (after_formed c (mesh_of rs) n (all_formed n rs w))
+    new_formed : AllByRecursion (WellFormed (n + 1)) (mesh_of new)
+    new_formed = subst (AllByRecursion (WellFormed (n + 1))) (sym (after_read c n rs w b)) (after_formed c (mesh_of rs) n (all_formed n rs w))
 
     pub new_balanced : Balanced (mesh_of new)
     new_balanced = subst Balanced (sym (after_read c n rs w b)) (after_balanced c (mesh_of rs) n (all_formed n rs w) low b shut)

@@ -1,6 +1,6 @@
 -- Which records of a balanced mesh have a face, and why neighbours that share faces name each other back.
 use Rattle.std.proofs.Common.{◌≡◌, ℕ, ◌<◌, ◌≤◌, Bool, true, false, ◌≢◌, List, length, get_or, sym, ap, ◌∙◌, subst, subst₂, inl, inr, arith, lit≤}
-use Rattle.std.specs.List.{AllByRecursion as All}
+use Rattle.std.specs.List.{AllByRecursion}
 use Rattle.std.proofs.ByRecursion.{All-get_or, All-from_get_or, All-map, All-weaker, has_get_or}
 use Rattle.std.proofs.lemmas.List.{length-map, get_or-map}
 use Rattle.std.proofs.lemmas.Bool.{cases_Bool, cases_eq, both_ways}
@@ -20,7 +20,7 @@ pub record Shares (m : ℕ) (t : ℕ → Tet) : Type 0 where
   pub same : (k i j : ℕ) (s : Slot) → k < m → i < m → j < m → is_outer (face (t k) s) ≡ false → i ≢ k → j ≢ k → has_face (face (t k) s) (t i) ≡ true → has_face (face (t k) s) (t j) ≡ true → i ≡ j
   pub mate : (k : ℕ) (s : Slot) → k < m → is_outer (face (t k) s) ≡ false → (j : ℕ) × (j < m) × (j ≢ k) × (has_face (face (t k) s) (t j) ≡ true)
 
-module _ (ts : List Tet) (h : All Proper ts) (b : Balanced ts) where
+module _ (ts : List Tet) (h : AllByRecursion Proper ts) (b : Balanced ts) where
   inner_apart : (r : ℕ) → r < length ts → (s : Slot) → Inner ts r (face (get_or ts r big) s) → is_outer (face (get_or ts r big) s) ≡ true → ⊥
   inner_apart r l s i e =
       let t = get_or ts r big in
@@ -67,10 +67,10 @@ shares_same m t u e h = record {
 pub tet_row : (rs : List TetRecord) (k : ℕ) → k < length rs → get_or (mesh_of rs) k big ≡ tet_of (row rs k)
 tet_row rs k l = get_or-map tet_of rs k blank big l
 
-pub all_formed : (n : ℕ) (rs : List TetRecord) → Whole n rs → All (WellFormed n) (mesh_of rs)
+pub all_formed : (n : ℕ) (rs : List TetRecord) → Whole n rs → AllByRecursion (WellFormed n) (mesh_of rs)
 all_formed n rs w = All-map (WellFormed n) tet_of rs (All-from_get_or (λ r. WellFormed n (tet_of r)) rs blank (λ k l. (w k l).formed))
 
-pub shares_rows : (n : ℕ) (rs : List TetRecord) → All (WellFormed n) (mesh_of rs) → Balanced (mesh_of rs) → Shares (length rs) (λ k. tet_of (row rs k))
+pub shares_rows : (n : ℕ) (rs : List TetRecord) → AllByRecursion (WellFormed n) (mesh_of rs) → Balanced (mesh_of rs) → Shares (length rs) (λ k. tet_of (row rs k))
 shares_rows n rs h b =
     let propers = All-weaker (WellFormed n) Proper (λ t i. i.proper) (mesh_of rs) h in
     shares_same (length rs) (λ k. get_or (mesh_of rs) k big) (λ k. tet_of (row rs k)) (tet_row rs) (subst (λ (m : ℕ). Shares m (λ k. get_or (mesh_of rs) k big)) (length-map rs tet_of) (shares (mesh_of rs) propers b))
@@ -81,7 +81,7 @@ pub record Meets (rs : List TetRecord) (k i : ℕ) : Type 0 where
   pub inner : is_outer (face_at (row rs k) i) ≡ false → (neighbour (row rs k) i < length rs) × (neighbour (row rs k) i ≢ k) × (has_face (face_at (row rs k) i) (tet_of (row rs (neighbour (row rs k) i))) ≡ true)
 
 -- on a balanced mesh that is enough
-pub whole_from : (n : ℕ) (rs : List TetRecord) → All (WellFormed n) (mesh_of rs) → Balanced (mesh_of rs) → length rs ≤ none
+pub whole_from : (n : ℕ) (rs : List TetRecord) → AllByRecursion (WellFormed n) (mesh_of rs) → Balanced (mesh_of rs) → length rs ≤ none
     → ((k : ℕ) → k < length rs → (row rs k).mark ≡ 0) → ((k i : ℕ) → k < length rs → i < 4 → Meets rs k i) → Whole n rs
 whole_from n rs h b few marks meets k l = record {
   mark = marks k l;

@@ -1,6 +1,6 @@
 -- What is antisymmetric has the same sum over the shell of some tetrahedra as over all their faces.
 use Rattle.std.proofs.Common.{◌≡◌, ℕ, ◌+◌, ◌≤◌, Bool, true, false, eqb, ◌≢◌, ◌⊎◌, List, [], ◌∷◌, map, ℤ, pos, ◌+ℤ◌, neg_ℤ, sum_by, count_by, sym, refl, ◌∙◌, inl, inr, arith}
-use Rattle.std.specs.List.{ContainsAt as Has, AllByRecursion as All}
+use Rattle.std.specs.List.{ContainsAt as Has, AllByRecursion}
 use Rattle.std.proofs.ByRecursion.{All-weaker, all_has_itself, all-has}
 use Rattle.std.proofs.lemmas.Int.{ints}
 use Rattle.std.proofs.lemmas.List.Sums.{sum_by-cons, sum_by-append}
@@ -18,7 +18,7 @@ abbrev pub facet : Tet → Slot → Facet
 facet t s = record { of = t; lacks = s }
 
 -- what holds of each face of each tetrahedron
-pub all_facets : (P : Facet → Type 0) (ts : List Tet) → All (λ t. (s : Slot) → P (facet t s)) ts → All P (facets ts)
+pub all_facets : (P : Facet → Type 0) (ts : List Tet) → AllByRecursion (λ t. (s : Slot) → P (facet t s)) ts → AllByRecursion P (facets ts)
 all_facets P [] h = tt
 all_facets P (t ∷ ts) h = (h.0 first, (h.0 second, (h.0 third, (h.0 fourth, all_facets P ts h.1))))
 
@@ -28,7 +28,7 @@ sum_facets f [] = refl
 sum_facets f (t ∷ ts) = omega (arith, sum_by-append f (map (facet t) slots) (facets ts), sum_by-cons (λ t. four (λ s. f (facet t s))) t ts, sum_facets f ts)
 
 -- the oriented faces, counted by the face
-pub orientations_facets : (ts : List Tet) → All Proper ts → (x y z : ℕ) → orientations ts x y z ≡ count_by (λ p. turns (triple p) x y z) (facets ts)
+pub orientations_facets : (ts : List Tet) → AllByRecursion Proper ts → (x y z : ℕ) → orientations ts x y z ≡ count_by (λ p. turns (triple p) x y z) (facets ts)
 orientations_facets ts h x y z =
     sum_by_same Proper (λ t. bit (oriented t x y z)) (λ t. four (λ s. bit (turns (face t s) x y z))) (λ t k. oriented_slots t k x y z) ts h
     ∙ sym (sum_facets (λ p. bit (turns (triple p) x y z)) ts)
@@ -52,7 +52,7 @@ own_oriented t third = grind (arith, nat_tests)
 own_oriented t fourth = grind (arith, nat_tests)
 
 -- a face is had in the one direction or the other
-pub has_faces : (ts : List Tet) → All Proper ts → (f : Triple) → Distinct f → count_by (has_face f) ts ≡ orientations ts f.x f.y f.z + orientations ts f.y f.x f.z
+pub has_faces : (ts : List Tet) → AllByRecursion Proper ts → (f : Triple) → Distinct f → count_by (has_face f) ts ≡ orientations ts f.x f.y f.z + orientations ts f.y f.x f.z
 has_faces ts h f d =
     let on : Tet → ℕ = λ t. bit (oriented t f.x f.y f.z) in
     let off : Tet → ℕ = λ t. bit (oriented t f.y f.x f.z) in
@@ -63,7 +63,7 @@ pub record Face (ts : List Tet) (f : Triple) : Type 0 where
   pub distinct : Distinct f
   pub had : 1 ≤ orientations ts f.x f.y f.z
 
-pub faces : (ts : List Tet) → All Proper ts → All (λ p. Face ts (triple p)) (facets ts)
+pub faces : (ts : List Tet) → AllByRecursion Proper ts → AllByRecursion (λ p. Face ts (triple p)) (facets ts)
 faces ts h = all_facets (λ p. Face ts (triple p)) ts (All-weaker (Has ts) (λ t. (s : Slot) → Face ts (face t s))
     (λ t k s. record { distinct = distinct t (all-has Proper ts t h k) s; had = counts (λ t'. oriented t' (face t s).x (face t s).y (face t s).z) ts t k (own_oriented t s) })
     ts (all_has_itself ts))
@@ -82,7 +82,7 @@ abbrev Sided : List Tet → Facet → Type 0
 Sided ts p = ((eqb (count_by (has_face (triple p)) ts) 1 ≡ true) × (count_by (opposite p) (facets ts) ≡ 0)) ⊎ ((eqb (count_by (has_face (triple p)) ts) 1 ≡ false) × (count_by (opposite p) (facets ts) ≡ 1))
 
 -- some tetrahedra of which no two have one oriented face
-module _ (ts : List Tet) (h : All Proper ts) (once : (x y z : ℕ) → orientations ts x y z ≤ 1) where
+module _ (ts : List Tet) (h : AllByRecursion Proper ts) (once : (x y z : ℕ) → orientations ts x y z ≤ 1) where
   sided : (p : Facet) → Face ts (triple p) → Sided ts p
   sided p f =
       let x = (triple p).x in let y = (triple p).y in let z = (triple p).z in

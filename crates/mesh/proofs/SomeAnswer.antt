@@ -1,6 +1,6 @@
 -- A call that the state permits has an answer: each question is decided.
 use Rattle.std.proofs.Common.{◌≡◌, ℕ, zero, suc, ◌<◌, ◌≤◌, Bool, true, ◌⊎◌, List, [], ◌∷◌, length, get_or, sym, subst, inl, inr, arith}
-use Rattle.std.specs.List.{AllByRecursion as All}
+use Rattle.std.specs.List.{AllByRecursion}
 use Rattle.std.proofs.ByRecursion.{All-from_get_or}
 use Rattle.std.proofs.lemmas.Bool.{cases_Bool, cases_eq, cases_lt, both_ways}
 use Rattle.algebra.specs.Lists.{some}
@@ -45,7 +45,7 @@ on_grid p = three _ _ _ (ranged p.x) (ranged p.y) (ranged p.z)
 same_place : (p q : Spot) → Decided (SamePlace p q)
 same_place p q = three _ _ _ (cases_eq p.x q.x) (cases_eq p.y q.y) (cases_eq p.z q.z)
 
-untaken : {R : Type 0} (p : Spot) (xs : List (Site R)) → Decided (All (λ a. ¬ SamePlace p a.place) xs)
+untaken : {R : Type 0} (p : Spot) (xs : List (Site R)) → Decided (AllByRecursion (λ a. ¬ SamePlace p a.place) xs)
 untaken p [] = inl tt
 untaken p (a ∷ xs) = elim (same_place p a.place) [
   | inl e ↦ inr (λ h. h.0 e)

@@ -1,7 +1,7 @@
 -- The lines and the margin of a statement add up to Side of the whole mesh.
 use Rattle.std.proofs.Common.{◌≡◌, ℕ, zero, suc, ◌-◌, ◌<◌, Bool, true, false, cond, ◌||◌, eqb, ltb, List, [], ◌∷◌, map, length, ℤ, pos, ◌+ℤ◌, Some, None, Option, refl, arith}
 use lib.ListN.{length-map}
-use Rattle.std.specs.List.{AllByRecursion as All, slice_get}
+use Rattle.std.specs.List.{AllByRecursion, slice_get}
 use Rattle.std.proofs.lemmas.Int.{ints}
 use Rattle.std.proofs.lemmas.Bool.{ltb-false}
 use Rattle.std.proofs.lemmas.Bool.Decides.{nat_tests}
@@ -42,7 +42,7 @@ one_part G e v (site a) (site b) corner hd = omega (arith, ints)
 one_part G e v (site a) (site b) (site c) corner = omega (arith, ints)
 one_part G e v (site a) (site b) (site c) (site d) = omega (arith, ints, one_class v (G.class a b c d) (e a b c d))
 
-pub statement_sum : {R : Type 0} (G : Grading R) (s : State R) → Eightfold G → All (Under (count s)) s.mesh
+pub statement_sum : {R : Type 0} (G : Grading R) (s : State R) → Eightfold G → AllByRecursion (Under (count s)) s.mesh
     → sum_z (λ l. l.units) (lines G s) +ℤ margin s ≡ sum_z (side_of (points s)) s.mesh
 statement_sum G s e h = omega (
   arith,

@@ -1,6 +1,6 @@
 -- What adding a site may answer, and the state that it leaves.
 use Rattle.std.specs.Prelude.{◌≡◌, ℕ, ◌+◌, ◌<◌, ◌≤◌, Bool, true, List, [], ◌∷◌, ◌++◌, length}
-use Rattle.std.specs.List.{AllByRecursion as All}
+use Rattle.std.specs.List.{AllByRecursion}
 use Rattle.algebra.specs.Lists.{some}
 use Rattle.geometry.specs.Lifts.{Lift}
 use Rattle.geometry.specs.Limits.{Light}
@@ -39,7 +39,7 @@ module _ {R : Type 0} (L : Lift) (G : Grading R) (tables : Tables) (s : State R)
   Room = count s < tables.points
 
   abbrev pub Untaken : Type 0
-  Untaken = All (λ a. ¬ SamePlace p a.place) s.sites
+  Untaken = AllByRecursion (λ a. ¬ SamePlace p a.place) s.sites
 
   abbrev pub Conflicting : Type 0
   Conflicting = some (conflicts L s p) s.mesh ≡ true

@@ -1,6 +1,6 @@
 -- What a survey's past may be: which answer each call may give, and which state it leaves, told from the calls alone.
 use Rattle.std.specs.Prelude.{◌≡◌, ℕ, ◌<◌, true, false, List, [], ◌∷◌, length, slice_index_or}
-use Rattle.std.specs.List.{AllByRecursion as All}
+use Rattle.std.specs.List.{AllByRecursion}
 use Rattle.geometry.specs.Lifts.{Lift}
 use Rattle.geometry.specs.Spots.{Spot, bare}
 use Rattle.mesh.specs.Adding.{Adds}
@@ -16,7 +16,7 @@ module _ {R : Type 0} (s : State R) (g : Spot) where
   -- What locating may answer: tetrahedra are numbered from 0 in the order of the mesh, and the lowest that owns the place is found.
   pub data Locates : Answer → Type 0 where
     nowhere : ¬ OnGrid g → Locates (refused 4)
-    no_owner : OnGrid g → All (λ t. ¬ Owner t) s.mesh → Locates (refused 13)
+    no_owner : OnGrid g → AllByRecursion (λ t. ¬ Owner t) s.mesh → Locates (refused 13)
     lowest_owner : OnGrid g → (k : ℕ) → k < length s.mesh → Owner (slice_index_or s.mesh k big) → ((j : ℕ) → j < k → ¬ Owner (slice_index_or s.mesh j big)) → Locates (found k)
 
 module _ {R : Type 0} (L : Lift) (G : Grading R) (tables : Tables) where

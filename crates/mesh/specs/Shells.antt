@@ -1,6 +1,6 @@
 -- Sums over a shell.
 use Rattle.std.specs.Prelude.{◌≡◌, ℕ, ◌≤◌, List, ℤ, neg_ℤ}
-use Rattle.std.specs.List.{AllByRecursion as All}
+use Rattle.std.specs.List.{AllByRecursion}
 use Rattle.algebra.specs.Sums.{sum_z}
 use Rattle.mesh.specs.Orientations.{Proper, orientations}
 use Rattle.mesh.specs.Tetrahedra.{Tet, Triple, triple, facets, shell}
@@ -20,5 +20,5 @@ pub record Antisymmetric (g : Triple → ℤ) : Type 0 where
 -- Over the shell of tetrahedra of which no two have one oriented face, what is antisymmetric has the same sum as over all
 -- their faces: the faces within cancel in pairs.
 abbrev pub ShellSum : Type 0
-ShellSum = (ts : List Tet) → All Proper ts → ((x y z : ℕ) → orientations ts x y z ≤ 1)
+ShellSum = (ts : List Tet) → AllByRecursion Proper ts → ((x y z : ℕ) → orientations ts x y z ≤ 1)
     → (g : Triple → ℤ) → Antisymmetric g → sum_z (λ p. g (triple p)) (shell ts) ≡ sum_z (λ p. g (triple p)) (facets ts)

@@ -1,6 +1,6 @@
 -- When a mesh over some points is sound, and that it is after any past.
 use Rattle.std.specs.Prelude.{◌≡◌, ℕ, ◌<◌, true, false, ◌≢◌, ◌⊎◌, List, length, ℤ, pos, ◌+ℤ◌, ◌<ℤ◌, slice_index_or}
-use Rattle.std.specs.List.{AllByRecursion as All}
+use Rattle.std.specs.List.{AllByRecursion}
 use Rattle.algebra.specs.Lists.{some}
 use Rattle.algebra.specs.Sums.{sum_z}
 use Rattle.geometry.specs.Lifts.{Lift}
@@ -43,10 +43,10 @@ module _ (L : Lift) (ps : List Spot) (ts : List Tet) where
 
   pub record SoundMesh : Type 0 where
     -- the tetrahedra have positive Side, and meet face to face
-    pub positive : All (λ t. pos 0 <ℤ side_of ps t) ts
+    pub positive : AllByRecursion (λ t. pos 0 <ℤ side_of ps t) ts
     pub faces : (k : ℕ) → k < length ts → (s : Slot) → OuterFace k s ⊎ SharedFace k s
     -- no point conflicts with a tetrahedron, and each belongs to at least one
-    pub clear : All (λ t. All (λ e. conflicting ps L e t ≡ false) ps) ts
+    pub clear : AllByRecursion (λ t. AllByRecursion (λ e. conflicting ps L e t ≡ false) ps) ts
     pub member : (q : ℕ) → q < length ps → some (has q) ts ≡ true
     -- their Sides add up to that of the big one
     pub total : sum_z (side_of ps) ts ≡ whole_side
@@ -90,7 +90,7 @@ pub record Law (R : Type 0) : Type 0 where
   -- the mesh is sound after any past
   pub sound : (L : Lift) (G : Grading R) (tables : Tables) (past : List (Call R × Answer)) (s : State R) → Allowed L G tables past s → SoundMesh L (points s) s.mesh
   -- and where the grading has eight classes, each statement of the past adds up
-  pub statements : (L : Lift) (G : Grading R) (tables : Tables) → Eightfold G → (past : List (Call R × Answer)) (s : State R) → Allowed L G tables past s → All (λ e. AddsUp e.1) past
+  pub statements : (L : Lift) (G : Grading R) (tables : Tables) → Eightfold G → (past : List (Call R × Answer)) (s : State R) → Allowed L G tables past s → AllByRecursion (λ e. AddsUp e.1) past
   -- a refused call leaves the state as it was
   pub refusals : (L : Lift) (G : Grading R) (tables : Tables) (s : State R) (c : Call R) (a : Answer) (e : State R) → Step L G tables s c a e → Refusal a → e ≡ s
   -- a call that the state permits has an answer

@@ -1,7 +1,7 @@
 -- The report on a survey file, written into the caller's room.
 use Rattle.std.specs.Prelude.{◌≡◌, ℕ, ◌<◌, ◌≤◌, Bool, cond, List, ◌++◌, length, drop}
 use Rattle.report.specs.Report.{Reported}
-use Rattle.mubdrax_c.specs.declared.report.TextAnswer.{TextAnswer}
+use Rattle.mubdrax_c.specs.declared.reporting.TextAnswer.{TextAnswer}
 
 -- a text is written to the front of the room, or is longer than the room, which then stays as it is
 pub data Wrote (text : List ℕ) (refused : Bool) (room room' : List ℕ) (a : TextAnswer) : Type 0 where

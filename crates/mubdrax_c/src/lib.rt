@@ -9,5 +9,5 @@ pub mod counts;
 pub mod create;
 pub mod locate;
 pub mod reading;
-pub mod report;
+pub mod reporting;
 pub mod state;

@@ -1,6 +1,6 @@
 -- On whole tables that hold a state in order, an add answers as the rules allow.
 use Rattle.std.proofs.Common.{◌≡◌, ℕ, zero, suc, ◌+◌, ◌<◌, ◌≤◌, Bool, true, false, not, ◌||◌, ltb, ◌⊎◌, List, [], ◌∷◌, ◌++◌, map, length, get_or, Decides, sym, refl, ap, ◌∙◌, subst, inl, inr, arith}
-use Rattle.std.specs.List.{AllByRecursion as All}
+use Rattle.std.specs.List.{AllByRecursion}
 use Rattle.std.proofs.ByRecursion.{All-from_get_or, All-get_or, All-map}
 use Rattle.std.proofs.lemmas.List.{length-map}
 use Rattle.std.proofs.lemmas.Bool.{both_ways, le-leb, leb-true}
@@ -63,7 +63,7 @@ light_tells n = (leb-true n 1000000, λ h. grind (arith, nat_tests))
 place_tells : (p : Spot) (r : PointRecord) → Decides (same_place p.x p.y p.z r) (SamePlace p (spot_of r))
 place_tells p r = (λ e. (grind (arith, nat_tests), grind (arith, nat_tests), grind (arith, nat_tests)), λ h. let x = h.0 in let y = h.1 in let z = h.2 in grind (arith, nat_tests))
 
-all_unmap : {X Y : Type 0} (P : Y → Type 0) (f : X → Y) (xs : List X) → All P (map f xs) → All (λ x. P (f x)) xs
+all_unmap : {X Y : Type 0} (P : Y → Type 0) (f : X → Y) (xs : List X) → AllByRecursion P (map f xs) → AllByRecursion (λ x. P (f x)) xs
 all_unmap P f [] h = tt
 all_unmap P f (x ∷ xs) h = (h.0, all_unmap P f xs h.1)
 
@@ -84,14 +84,14 @@ module _ {R : Type 0} (p : Spot) (us : List PointRecord) (sites : List (Site R))
   longer : length us ≡ suc (suc (suc (suc (length places))))
   longer = sym (length-map us spot_of) ∙ ap length e
 
-  to_sites : ((k : ℕ) → k < length us → Apart k) → All Elsewhere places
+  to_sites : ((k : ℕ) → k < length us → Apart k) → AllByRecursion Elsewhere places
   unfolding Apart
   to_sites h = All-from_get_or Elsewhere places (bare 0 0 0) (λ j l. elim (h (suc (suc (suc (suc j)))) (omega (arith, longer))) [
     | inl low ↦ absurd (omega arith)
     | inr other ↦ subst Elsewhere (spot_is j) other
   ])
 
-  from_sites : All Elsewhere places → (k : ℕ) → k < length us → Apart k
+  from_sites : AllByRecursion Elsewhere places → (k : ℕ) → k < length us → Apart k
   unfolding Apart
   from_sites h zero l = inl (omega arith)
   from_sites h (suc zero) l = inl (omega arith)
@@ -99,7 +99,7 @@ module _ {R : Type 0} (p : Spot) (us : List PointRecord) (sites : List (Site R))
   from_sites h (suc (suc (suc zero))) l = inl (omega arith)
   from_sites h (suc (suc (suc (suc j)))) l = inr (subst Elsewhere (sym (spot_is j)) (All-get_or Elsewhere places j (bare 0 0 0) (omega (arith, longer)) h))
 
-  untaken_tells : Decides (untaken us p.x p.y p.z) (All (λ a. Elsewhere a.place) sites)
+  untaken_tells : Decides (untaken us p.x p.y p.z) (AllByRecursion (λ a. Elsewhere a.place) sites)
   unfolding Apart
   untaken_tells =
       let test : ℕ → Bool = λ k. ltb k 4 || not (same_place p.x p.y p.z (get_or us k blank_point)) in

@@ -1,6 +1,6 @@
 -- A survey with a past: its calls are steps that the rules allow, and its tables hold the state to which they lead.
 use Rattle.std.proofs.Common.{◌≡◌, ℕ, zero, suc, ◌+◌, ◌-◌, ◌<◌, Bool, true, false, ltb, List, [], ◌∷◌, ◌++◌, map, length, take, drop, set, None, Ok, Err, Result, sym, refl, ap, ◌∙◌, subst, arith}
-use Rattle.std.specs.List.{AllByRecursion as All, slice_get}
+use Rattle.std.specs.List.{AllByRecursion, slice_get}
 use Rattle.std.proofs.ByRecursion.{All-weaker}
 use Rattle.std.proofs.lemmas.Bool.{cond-false, le-ltb}
 use Rattle.geometry.specs.Lifts.{Lift}
@@ -151,7 +151,7 @@ module _ {R : Type 0} (L : Lift) (G : Grading R) where
           ∙ ap (slice_get (map (λ a. a.reading) h.state.sites)) (let down : j ≡ q - 4 = omega arith in down)
           ∙ sym (cond-false (ltb q 4) None (slice_get (map (λ a. a.reading) h.state.sites) (q - 4)) (le-ltb q 4 (omega arith)))
 
-      under : All (Under (count h.state)) h.state.mesh
+      under : AllByRecursion (Under (count h.state)) h.state.mesh
       under = All-weaker (WellFormed (count h.state)) (Under (count h.state)) (λ u f. f.under) h.state.mesh order_closed.formed
 
       -- the figures of the tables are those of the state

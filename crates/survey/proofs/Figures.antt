@@ -1,7 +1,7 @@
 -- The figures of a list of tetrahedra, one tetrahedron after another.
 use Rattle.std.proofs.Common.{◌≡◌, ℕ, zero, suc, ◌+◌, ◌*◌, ◌<◌, ◌≤◌, Bool, true, false, cond, not, eqb, List, [], ◌∷◌, ◌++◌, map, length, get_or, take, ℤ, ◌+ℤ◌, nat_abs, Some, None, filter, Option, sym, refl, ap, ◌∙◌, subst, arith, lit<, length-take}
 use mathlib.Core.Path.{fun_ext}
-use Rattle.std.specs.List.{AllByRecursion as All}
+use Rattle.std.specs.List.{AllByRecursion}
 use Rattle.std.proofs.lemmas.List.Elements.{filter-append}
 use Rattle.std.proofs.ByRecursion.{all_kept_by, All-push}
 use Rattle.std.proofs.lemmas.List.Filters.{length-filter_both}
@@ -86,17 +86,17 @@ module _ {R : Type 0} (G : Grading R) (ss : List Spot) (rs : List R) where
 -- ---- sizes
 
 module _ (f : Tet → ℤ) where
-  sized_sum : (us : List Tet) → All (λ u. Sized (f u)) us → nat_abs (sum_z f us) ≤ length us * 100663296000
+  sized_sum : (us : List Tet) → AllByRecursion (λ u. Sized (f u)) us → nat_abs (sum_z f us) ≤ length us * 100663296000
   sized_sum [] h = omega arith
   sized_sum (u ∷ us) h = omega (arith, abs_add (f u) (sum_z f us) h.0 (sized_sum us h.1))
 
-  roomy_tally : (p : Tet → Bool) (ts : List Tet) → length ts ≤ 16384 → All (λ t. Sized (f t)) ts → Roomy (tally f (filter p ts))
+  roomy_tally : (p : Tet → Bool) (ts : List Tet) → length ts ≤ 16384 → AllByRecursion (λ t. Sized (f t)) ts → Roomy (tally f (filter p ts))
   roomy_tally p ts l h =
       let few : length (filter p ts) ≤ 16384 = omega (arith, length-filter_both p (λ t. not (p t)) (λ _. refl) ts) in
       record { tetrahedra = few; units = omega (arith, sized_sum (filter p ts) (all_kept_by p (λ t. Sized (f t)) ts h)) }
 
 module _ {R : Type 0} (G : Grading R) (ss : List Spot) (rs : List R) where
-  pub roomy_figures : (ts : List Tet) → length ts ≤ 16384 → All (λ t. Sized (side_of ss t)) ts → RoomyStatement (figures G ss rs ts)
+  pub roomy_figures : (ts : List Tet) → length ts ≤ 16384 → AllByRecursion (λ t. Sized (side_of ss t)) ts → RoomyStatement (figures G ss rs ts)
   roomy_figures ts l h = record {
     lines = λ k i. subst Roomy (sym (get_or-map (line_at G ss rs ts) classes k 0 blank_line i)) (roomy_tally (side_of ss) (λ t. is_class (get_or classes k 0) (class_at G rs t)) ts l h);
     margin = (roomy_tally (side_of ss) cornered ts l h).units;
@@ -108,7 +108,7 @@ module _ {R : Type 0} (G : Grading R) (ss : List Spot) (rs : List R) (ts : List 
   -- the first i records are entered
   pub record Entered (i : ℕ) (s : Statement) : Type 0 where
     pub is : s ≡ figures G ss rs (mesh_of (take i ts))
-    pub sized : All (λ t. Sized (side_of ss t)) (mesh_of (take i ts))
+    pub sized : AllByRecursion (λ t. Sized (side_of ss t)) (mesh_of (take i ts))
 
   pub entered_none : (s : Statement) → s ≡ blank_statement → Entered 0 s
   entered_none s e = record { is = e; sized = tt }
@@ -121,7 +121,7 @@ module _ {R : Type 0} (G : Grading R) (ss : List Spot) (rs : List R) (ts : List 
       let more = map_more tet_of ts i blank l in
       record {
         is = e ∙ ap (entered G ss rs (tet_of (row ts i))) h.is ∙ sym (figures_push G ss rs (mesh_of (take i ts)) (tet_of (row ts i))) ∙ ap (figures G ss rs) (sym more);
-        sized = subst (All (λ t. Sized (side_of ss t))) (sym more) (All-push (λ t. Sized (side_of ss t)) (mesh_of (take i ts)) (tet_of (row ts i)) h.sized z);
+        sized = subst (AllByRecursion (λ t. Sized (side_of ss t))) (sym more) (All-push (λ t. Sized (side_of ss t)) (mesh_of (take i ts)) (tet_of (row ts i)) h.sized z);
       }
 
   pub entered_all : (i : ℕ) (s : Statement) → Entered i s → length ts ≤ i → s ≡ figures G ss rs (mesh_of ts)

@@ -1,6 +1,6 @@
 -- Whole records that read as a sound, balanced mesh are sound themselves: across each face they name the one other record that has it.
 use Rattle.std.proofs.Common.{◌≡◌, ℕ, suc, ◌<◌, Bool, true, false, ◌≢◌, ◌⊎◌, List, [], ◌∷◌, length, get_or, pos, ◌<ℤ◌, sym, refl, ap, ◌∙◌, subst, inl, inr, arith}
-use Rattle.std.specs.List.{AllByRecursion as All}
+use Rattle.std.specs.List.{AllByRecursion}
 use Rattle.std.proofs.ByRecursion.{All-get_or}
 use Rattle.std.proofs.lemmas.List.{length-map}
 use Rattle.std.proofs.lemmas.Bool.{both_ways, cases_Bool, cases_eq, or_cases}
@@ -150,7 +150,7 @@ module _ (L : Lift) (ps : List Spot) (n : ℕ) (rs : List TetRecord) (w : Whole 
     faces = faces;
     clear = λ k q l i.
         subst (λ (t : Tet). conflicting ps L (numbered ps q) t ≡ false) (tet_row rs k l)
-        (All-get_or (λ e. conflicting ps L e (tet k) ≡ false) ps q (bare 0 0 0) i (All-get_or (λ t. All (λ e. conflicting ps L e t ≡ false) ps) (mesh_of rs) k big (omega (arith, l, many)) m.clear));
+        (All-get_or (λ e. conflicting ps L e (tet k) ≡ false) ps q (bare 0 0 0) i (All-get_or (λ t. AllByRecursion (λ e. conflicting ps L e t ≡ false) ps) (mesh_of rs) k big (omega (arith, l, many)) m.clear));
     member = λ q l. some_at (λ r. has q (tet_of r)) blank rs (sym (some-map (has q) tet_of rs) ∙ m.member q l);
     total = m.total;
   }

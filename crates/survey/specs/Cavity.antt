@@ -1,6 +1,6 @@
 -- The hole that an add makes in the used records, told from flags: one for each record, set where it is dropped.
 use Rattle.std.specs.Prelude.{◌≡◌, ℕ, ◌+◌, ◌*◌, ◌/◌, ◌<◌, ◌≤◌, Bool, false, cond, not, ◌&&◌, ◌||◌, ◌≢◌, List, length, ◌==◌, slice_index, slice_index_or}
-use Rattle.std.specs.List.{AllByRecursion as All}
+use Rattle.std.specs.List.{AllByRecursion}
 use Rattle.mesh.specs.Added.{across, drops, passing, rank}
 use Rattle.mesh.specs.Records.{none, row, neighbour}
 use Rattle.mesh.specs.Tetrahedra.{Tet}
@@ -41,7 +41,7 @@ blank_face = record { «record» = 0; slot = 0 }
 
 -- some faces are each one of a used record
 abbrev pub Placed : List TetRecord → List ShellFace → Type 0
-Placed rs ss = All (λ f. (f.record < length rs) × (f.slot < 4)) ss
+Placed rs ss = AllByRecursion (λ f. (f.record < length rs) × (f.slot < 4)) ss
 
 -- the number noted for record k: among the kept ones that of a kept record, and of a dropped one how many shell faces precede its own
 abbrev pub noted : List TetRecord → List Bool → (k : ℕ) → ℕ

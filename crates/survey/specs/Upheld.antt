@@ -1,6 +1,6 @@
 -- What is promised of a survey with a past.
 use Rattle.std.specs.Prelude.{◌≡◌, ℕ, ◌<◌, Bool, true, false, ◌≢◌, ◌⊎◌, List, [], ◌∷◌, map, length, take, drop, pos, ◌<ℤ◌, Ok, Err, Result}
-use Rattle.std.specs.List.{AllByRecursion as All}
+use Rattle.std.specs.List.{AllByRecursion}
 use Rattle.algebra.specs.Sums.{sum_z}
 use Rattle.geometry.specs.Lifts.{Lift}
 use Rattle.geometry.specs.Spots.{Spot}
@@ -87,8 +87,8 @@ pub record Upheld {R : Type 0} (L : Lift) (G : Grading R) (past : List (Call R �
   pub held : Holds c tables going state
   pub whole : WholeTables c tables.points (length tables.readings) tables.tets
   pub sound : Sound L (spots c tables.points) (used_tets c tables.tets)
-  pub statements : All (λ e. AddsUp e.1) past
-  pub unbroken : All (λ e. e.1 ≢ refused 3) past
+  pub statements : AllByRecursion (λ e. AddsUp e.1) past
+  pub unbroken : AllByRecursion (λ e. e.1 ≢ refused 3) past
 
 module _ {M G R : Type 0} (lifts : M → Lift) (admitted : G → R → Bool) (classed : G → R → R → R → R → ℕ) where
   -- the same of a survey, by what its measure and its grading mean

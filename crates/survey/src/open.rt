@@ -12,6 +12,6 @@ pub struct Open<M, G> {
 
 mod add;
 mod create;
-mod grading;
+mod lend;
 mod resume;
 mod seal;

@@ -1,6 +1,6 @@
 use Rattle.std.proofs.Common.{subst}
 use Rattle.mubdrax_c.specs.Texts.{Wrote, reported}
-use Rattle.mubdrax_c.proofs.report.mubdrax_report.Goals as goal
+use Rattle.mubdrax_c.proofs.reporting.mubdrax_report.Goals as goal
 
 pub returns-in-Ok : goal.returns-in-Ok
 returns-in-Ok c =
