@@ -21,7 +21,7 @@ pub extern "C" fn mubdrax_add(
     penalty: u32,
     reading: ReadingRecord,
 ) -> Answer
-    ensures { AddedFor counts.old counts.new (record { points = points.entry.now; readings = readings.old; tets = tets.old }) (record { points = points.exit.now; readings = readings.new; tets = tets.new }) (record { x = x; y = y; z = z; penalty = penalty }) reading result }
+    ensures { AddedFor counts.old counts.new (record { points = points.old; readings = readings.old; tets = tets.old }) (record { points = points.new; readings = readings.new; tets = tets.new }) (record { x = x; y = y; z = z; penalty = penalty }) reading result }
 {
     let Some(known) = counts.known() else {
         return Answer::no_survey();

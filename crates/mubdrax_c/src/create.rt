@@ -16,7 +16,7 @@ pub extern "C" fn mubdrax_create(
     readings: &mut [ReadingRecord],
     tets: &mut [TetRecord],
 ) -> Answer
-    ensures { CreatedFor counts.old counts.new (record { points = points.entry.now; readings = readings.old; tets = tets.old }) (record { points = points.exit.now; readings = readings.new; tets = tets.new }) result }
+    ensures { CreatedFor counts.old counts.new (record { points = points.old; readings = readings.old; tets = tets.old }) (record { points = points.new; readings = readings.new; tets = tets.new }) result }
 {
     match Open::create(Plain, RecordAssay, points, readings, tets) {
         Ok(survey) => {

@@ -19,7 +19,7 @@ pub extern "C" fn mubdrax_locate(
     y: u16,
     z: u16,
 ) -> Answer
-    ensures { LocatedFor counts.now (record { points = points.entry.now; readings = readings.now; tets = tets.now }) x y z result }
+    ensures { LocatedFor counts.now (record { points = points.now; readings = readings.now; tets = tets.now }) x y z result }
 {
     let Some(known) = counts.known() else {
         return Answer::no_survey();

@@ -18,7 +18,7 @@ pub extern "C" fn mubdrax_state(
     tets: &[TetRecord],
     statement: &mut Statement,
 ) -> Answer
-    ensures { StatedFor counts.now (record { points = points.entry.now; readings = readings.now; tets = tets.now }) statement.old statement.new result }
+    ensures { StatedFor counts.now (record { points = points.now; readings = readings.now; tets = tets.now }) statement.old statement.new result }
 {
     let Some(known) = counts.known() else {
         return Answer::no_survey();

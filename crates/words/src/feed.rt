@@ -25,7 +25,7 @@ pub fn feed<'a, M: Measure + Drop, G: Grading + Drop>(
     readings: &mut [G::Reading],
     tets: &mut [TetRecord],
 ) -> Result<(), Refusal<'a>>
-    ensures fed { FedOn M.Measure.lifts G.Grading.admitted G.Grading.classed G.Grading.decoded file.now survey.old (record { points = points.entry.now; readings = readings.old; tets = tets.old }) survey.new (record { points = points.exit.now; readings = readings.new; tets = tets.new }) (outcome result) }
+    ensures fed { FedOn M.Measure.lifts G.Grading.admitted G.Grading.classed G.Grading.decoded file.now survey.old (record { points = points.old; readings = readings.old; tets = tets.old }) survey.new (record { points = points.new; readings = readings.new; tets = tets.new }) (outcome result) }
     ensures measure { survey.new.measure ≡ survey.old.measure }
     ensures grading { survey.new.grading ≡ survey.old.grading }
 {

@@ -60,7 +60,7 @@ impl<M: Measure + Drop, G: Grading + Drop> Open<M, G> {
         ensures adds { AddsTo (M.Measure.lifts self.old.measure) (G.Grading.admitted self.old.grading) self.old.counts points.old readings.old tets.old (record { x = x; y = y; z = z; penalty = penalty }) reading self.new.counts points.new readings.new tets.new result }
         ensures measure { self.new.measure ≡ self.old.measure }
         ensures grading { self.new.grading ≡ self.old.grading }
-        ensures continues { Continues M.Measure.lifts G.Grading.admitted G.Grading.classed (opened self.old) (record { points = points.entry.now; readings = readings.old; tets = tets.old }) (added (record { x = x; y = y; z = z; penalty = penalty }) reading, add_told result) (opened self.new) (record { points = points.exit.now; readings = readings.new; tets = tets.new }) }
+        ensures continues { Continues M.Measure.lifts G.Grading.admitted G.Grading.classed (opened self.old) (record { points = points.old; readings = readings.old; tets = tets.old }) (added (record { x = x; y = y; z = z; penalty = penalty }) reading, add_told result) (opened self.new) (record { points = points.new; readings = readings.new; tets = tets.new }) }
     {
         let admitted = self.grading.admits(&reading);
         let counts = self.counts;

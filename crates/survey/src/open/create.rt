@@ -60,7 +60,7 @@ impl<M: Measure + Drop, G: Grading + Drop> Open<M, G> {
         tets: &mut [TetRecord],
     ) -> Result<Open<M, G>, Refusal>
         ensures creates { Created measure grading points.old points.new readings.old readings.new tets.old tets.new result }
-        ensures starts { Starts M.Measure.lifts G.Grading.admitted G.Grading.classed (record { points = points.exit.now; readings = readings.new; tets = tets.new }) result }
+        ensures starts { Starts M.Measure.lifts G.Grading.admitted G.Grading.classed (record { points = points.new; readings = readings.new; tets = tets.new }) result }
     {
         if !can_hold_points(points.len(), readings.len()) {
             return Err(Refusal::PointTable);

@@ -29,7 +29,7 @@ impl<M: Measure + Drop, G: Grading + Drop> Sealed<M, G> {
         z: u16,
     ) -> Result<u16, Refusal>
         ensures locates { Located self.now.counts points.now (length readings.now) tets.now x y z result }
-        ensures continues { Continues M.Measure.lifts G.Grading.admitted G.Grading.classed (closed self.now) (record { points = points.entry.now; readings = readings.now; tets = tets.now }) (locating x y z, located_answer result) (closed self.now) (record { points = points.entry.now; readings = readings.now; tets = tets.now }) }
+        ensures continues { Continues M.Measure.lifts G.Grading.admitted G.Grading.classed (closed self.now) (record { points = points.now; readings = readings.now; tets = tets.now }) (locating x y z, located_answer result) (closed self.now) (record { points = points.now; readings = readings.now; tets = tets.now }) }
     {
         let counts = &self.counts;
         if !is_whole(counts, points, readings.len(), tets) {

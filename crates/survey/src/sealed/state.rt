@@ -103,7 +103,7 @@ impl<M: Measure + Drop, G: Grading + Drop> Sealed<M, G> {
         statement: &mut Statement,
     ) -> Result<(), Refusal>
         ensures states { Stated (meaning G.Grading.admitted G.Grading.classed self.now.grading) self.now.counts points.now readings.now tets.now statement.old statement.new result }
-        ensures continues { Continues M.Measure.lifts G.Grading.admitted G.Grading.classed (closed self.now) (record { points = points.entry.now; readings = readings.now; tets = tets.now }) (state, state_told statement.new result) (closed self.now) (record { points = points.entry.now; readings = readings.now; tets = tets.now }) }
+        ensures continues { Continues M.Measure.lifts G.Grading.admitted G.Grading.classed (closed self.now) (record { points = points.now; readings = readings.now; tets = tets.now }) (state, state_told statement.new result) (closed self.now) (record { points = points.now; readings = readings.now; tets = tets.now }) }
     {
         let counts = &self.counts;
         if !is_whole(counts, points, readings.len(), tets) {
