@@ -4,10 +4,11 @@
 set -eu
 cd "$(dirname "$0")"
 root=$(cd .. && pwd -P)
-kit=$(dirname "$(dirname "$(rt doc)")")
+kit=$(dirname "$(rt doc)")
 log=$root/target/bench.log
 
-(cd "$root" && rt staticlib mubdrax_c >"$log" 2>&1) || { tail -n 20 "$log"; exit 1; }
+mkdir -p "$root/target"
+(cd "$root/crates/mubdrax_c" && rt lib >"$log" 2>&1) || { tail -n 20 "$log"; exit 1; }
 export RATTLE_HOME="$kit" CARGO_TARGET_DIR="$root/target/bench"
 cargo build --quiet --release
 bench=$CARGO_TARGET_DIR/release/bench

@@ -4,15 +4,15 @@
 set -eu
 cd "$(dirname "$0")"
 root=$(cd .. && pwd -P)
-kit=$(dirname "$(dirname "$(rt doc)")")
+kit=$(dirname "$(rt doc)")
 out=$root/target/bindings
 mkdir -p "$out"
 
-(cd "$root" && rt staticlib mubdrax_c >"$out/staticlib.log" 2>&1) || { tail -n 20 "$out/staticlib.log"; exit 1; }
+(cd "$root/crates/mubdrax_c" && rt lib >"$out/staticlib.log" 2>&1) || { tail -n 20 "$out/staticlib.log"; exit 1; }
 tail -n 1 "$out/staticlib.log"
 
 # The library calls malloc and free through the toolchain's own C code, so that is linked too.
-${CC:-cc} -std=c11 -Wall -Wextra -Werror -O2 -o "$out/example" c/example.c "$root/target/staticlib/libmubdrax_c.a" "$kit/lib/librattle_c.a"
+${CC:-cc} -std=c11 -Wall -Wextra -Werror -O2 -o "$out/example" c/example.c "$root/crates/mubdrax_c/out/libmubdrax_c.a" "$kit/c/liblibc_c.a"
 "$out/example" >"$out/c.out"
 diff c/expected "$out/c.out"
 echo "the C example prints what c/expected has"

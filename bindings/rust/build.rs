@@ -1,12 +1,12 @@
-//! Links the static library that `rt staticlib mubdrax_c` makes and the code of the toolchain that it needs.
+//! Links the static library that `rt lib` makes in `crates/mubdrax_c` and the code of the toolchain that it needs.
 use std::env;
 use std::path::{Path, PathBuf};
 
 fn main() {
     let here = PathBuf::from(env::var_os("CARGO_MANIFEST_DIR").expect("cargo names the folder of the package"));
     let repository = here.join("../..");
-    link(&repository.join("target/staticlib"), "mubdrax_c");
-    link(&toolchain().join("lib"), "rattle_c");
+    link(&repository.join("crates/mubdrax_c/out"), "mubdrax_c");
+    link(&toolchain().join("c"), "libc_c");
     println!("cargo:rerun-if-env-changed=RATTLE_HOME");
 }
 
