@@ -40,7 +40,11 @@ fn four_sites_have_one_tetrahedron(rt: HostRuntime) -> Result<(), Fail> {
 fn a_cube_of_eight_sites_has_its_six_thousand_units(rt: HostRuntime) -> Result<(), Fail> {
     let mut t = blank();
     let mut survey = created(&mut t)?;
-    eight_sites(&rt, &mut survey, &mut t);
+    four_sites(&rt, &mut survey, &mut t);
+    assert_eq!(rt; added(&mut survey, &mut t, 110, 110, 100), 8);
+    assert_eq!(rt; added(&mut survey, &mut t, 110, 100, 110), 9);
+    assert_eq!(rt; added(&mut survey, &mut t, 100, 110, 110), 10);
+    assert_eq!(rt; added(&mut survey, &mut t, 110, 110, 110), 11);
     let statement = stated(survey, &t)?;
     assert_eq!(rt; statement.lines[0].units, 6_000);
     assert_eq!(rt; statement.margin, 16_777_210_000);
