@@ -50,7 +50,7 @@ def wants(name):
 
 
 def code_of(text, comment):
-    """The text without comments, strings and imports."""
+    """The text without comments and strings."""
     lines = []
     for line in text.split('\n'):
         line = re.sub(comment + r'.*$', '', line)
