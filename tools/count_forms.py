@@ -23,7 +23,7 @@ PATTERNS = {
     "4b a conversion by hand": r"\bfn (of|from_bits|known|reading|code_of|point_of|point_at|bare|accepted|refused|fraction_text)\b",
     "4c printing by hand": r"\bfn (line|\w+_line|\w+_lines|\w+_text|layer_name|listing)\b.*(heap|->)|\bfn \w+_line\(",
     "4d a constant record written out": r"\bconst (NO_POINT|BLANK|CLEARED): ",
-    "6a a large array of fixed length": r"\[[^]\[]+; ?(1024|16_?384)\]",
+    "6a a large array of fixed length": r"[^]\[]+; ?(1024|16_?384|MOST_\w+)\]",
     "6b a length or a count beside a buffer": r"\b(count|length|len): usize\b",
     "7 steps by number, tables of functions": r"\bdyn |\bfn\(|\[fn\b|\bstep: u",
 }

@@ -1,7 +1,8 @@
 -- Tests of a whole list, and how many elements pass one.
-use Rattle.std.proofs.Common.{◌≡◌, ℕ, zero, suc, ◌<◌, ◌≤◌, Bool, true, false, cond, ◌||◌, List, [], ◌∷◌, ◌++◌, map, length, get_or, count_by, filter, refl, ap, inl, inr, arith}
+use Rattle.std.proofs.Common.{◌≡◌, ℕ, zero, suc, ◌<◌, ◌≤◌, Bool, true, cond, ◌||◌, List, [], ◌∷◌, ◌++◌, map, length, get_or, count_by, filter, refl, ap, inl, inr, arith}
 use Rattle.std.specs.List.{ContainsAt as Has, AllByRecursion}
 use Rattle.std.proofs.ByRecursion.{has_get_or}
+use Rattle.std.proofs.lemmas.List.Folds.{list_any-append}
 use Rattle.std.proofs.lemmas.List.Sums.{sum_by-cons, get_or-le-sum_by}
 use Rattle.std.proofs.lemmas.Bool.{and_parts, or_cases, or_left, or_right, false≢true, cases_Bool}
 use Rattle.algebra.specs.Lists.{all, some}
@@ -10,17 +11,12 @@ use Rattle.algebra.specs.Lists.{all, some}
 abbrev pub bit : Bool → ℕ
 bit b = cond b 1 0
 
-or_assoc : (a b c : Bool) → (a || (b || c)) ≡ ((a || b) || c)
-or_assoc true b c = refl
-or_assoc false b c = refl
-
 pub all_true : {X : Type 0} (p : X → Bool) (xs : List X) → all p xs ≡ true → AllByRecursion (λ x. p x ≡ true) xs
 all_true p [] h = tt
 all_true p (x ∷ xs) h = let hs = and_parts (p x) (all p xs) h in (hs.0, all_true p xs hs.1)
 
 pub some-append : {X : Type 0} (p : X → Bool) (xs ys : List X) → some p (xs ++ ys) ≡ (some p xs || some p ys)
-some-append p [] ys = refl
-some-append p (x ∷ xs) ys = rw (some-append p xs ys) (or_assoc (p x) (some p xs) (some p ys))
+some-append p xs ys = list_any-append p xs ys
 
 pub some-map : {X Y : Type 0} (p : Y → Bool) (m : X → Y) (xs : List X) → some p (map m xs) ≡ some (λ x. p (m x)) xs
 some-map p m [] = refl

@@ -3,6 +3,7 @@ use Rattle.std.proofs.Common.{◌≡◌, ℕ, ◌+◌, ◌≤◌, Bool, true, fa
 use mathlib.Core.Path.{fun_ext}
 use Rattle.std.specs.List.{AllByRecursion}
 use Rattle.std.proofs.lemmas.Int.{ints}
+use Rattle.std.proofs.lemmas.List.Filters.{sum_by-filter_both}
 use Rattle.std.proofs.lemmas.List.Sums.{sum_by-cons}
 use Rattle.std.proofs.lemmas.Bool.{cases_Bool}
 use Rattle.algebra.specs.Sums.{sum_z, Paired}
@@ -32,11 +33,7 @@ sum_by-map f m (x ∷ xs) = omega (arith, sum_by-cons f (m x) (map m xs), sum_by
 
 -- a list is what a test keeps and what it drops
 pub sum_by_split : {X : Type 0} (f : X → ℕ) (p : X → Bool) (xs : List X) → sum_by f xs ≡ sum_by f (filter (λ x. not (p x)) xs) + sum_by f (filter p xs)
-sum_by_split f p [] = refl
-sum_by_split f p (x ∷ xs) = elim (p x) as (λ b. sum_by f (x ∷ xs) ≡ sum_by f (cond (not b) (x ∷ filter (λ x. not (p x)) xs) (filter (λ x. not (p x)) xs)) + sum_by f (cond b (x ∷ filter p xs) (filter p xs))) [
-  | true ↦ omega (arith, sum_by-cons f x xs, sum_by-cons f x (filter p xs), sum_by_split f p xs)
-  | false ↦ omega (arith, sum_by-cons f x xs, sum_by-cons f x (filter (λ x. not (p x)) xs), sum_by_split f p xs)
-]
+sum_by_split f p xs = omega (arith, sum_by-filter_both p (λ x. not (p x)) (λ x. refl) f xs)
 
 -- ---- sums of whole numbers
 

@@ -1,6 +1,6 @@
 //! Tables that are not whole are refused and left alone. Whole ones are answered by the rules, sound
 //! or not.
-use crate::tables::{NO_POINT, Tables, added, blank, created};
+use crate::tables::{SmallTables, added, blank, one_site, site};
 use geometry::plain::Plain;
 use grading::assay::{Assay, Reading};
 use mesh::record::{NONE, TetRecord, big_record};
@@ -10,11 +10,10 @@ use survey::open::Open;
 use survey::record::PointRecord;
 use survey::refusal::Refusal;
 use survey::statement::Statement;
-
-/// What `added` gives where the tables are not whole.
-const NOT_WHOLE: u16 = 103;
+use survey::tables::Tables;
 
 /// A way in which one record is not whole.
+// Names and no closures: two tests go through the same list, and each way is read by its name.
 #[derive(Clone, Copy)]
 enum Flaw {
     PointMark,
@@ -52,16 +51,8 @@ const FLAWS: [Flaw; 15] = [
     Flaw::NeighbourWithoutFace,
 ];
 
-/// A survey with the site (100,100,100), whose records have the points 4 1 2 3, 0 4 2 3, 0 1 4 3 and
-/// 0 1 2 4.
-fn one_site(rt: &impl Abort, t: &mut Tables) -> Result<Open<Plain, Assay>, Fail> {
-    let mut survey = created(t)?;
-    assert_eq!(rt; added(&mut survey, t, 100, 100, 100), 4);
-    Ok(survey)
-}
-
 /// Breaks the tables of a survey with one site.
-fn spoil(t: &mut Tables, flaw: Flaw) {
+fn spoil(t: &mut SmallTables, flaw: Flaw) {
     match flaw {
         Flaw::PointMark => t.points[4].mark = 1,
         Flaw::TetMark => t.tets[3].mark = 1,
@@ -84,7 +75,7 @@ fn spoil(t: &mut Tables, flaw: Flaw) {
     }
 }
 
-fn check_same(rt: &impl Abort, t: &Tables, before: &Tables) {
+fn check_same(rt: &impl Abort, t: &SmallTables, before: &SmallTables) {
     assert_eq!(rt; t.points, before.points);
     assert_eq!(rt; t.readings, before.readings);
     assert!(rt; t.tets == before.tets);
@@ -97,7 +88,10 @@ fn each_flaw_is_refused_by_adding(rt: HostRuntime) -> Result<(), Fail> {
         let mut survey = one_site(&rt, &mut t)?;
         spoil(&mut t, flaw);
         let before = t;
-        assert_eq!(rt; added(&mut survey, &mut t, 100, 120, 120), NOT_WHOLE);
+        assert_eq!(rt;
+            added(&mut survey, &mut t, 100, 120, 120),
+            Err(Refusal::NotWhole)
+        );
         check_same(&rt, &t, &before);
     }
     Ok(())
@@ -111,58 +105,46 @@ fn each_flaw_is_refused_by_stating(rt: HostRuntime) -> Result<(), Fail> {
         spoil(&mut t, flaw);
         let mut statement = Statement::new();
         statement.margin = 7;
-        match sealed.state(&t.points, &t.readings, &t.tets, &mut statement) {
-            Ok(()) => return Err(Fail::new("stated")),
-            Err(refusal) => assert_eq!(rt; refusal.number(), 3),
-        }
+        assert_eq!(rt;
+            sealed.state(&t.show(), &mut statement),
+            Err(Refusal::NotWhole)
+        );
         assert_eq!(rt; statement.margin, 7);
         assert_eq!(rt; statement.lines[0].tetrahedra, 0);
     }
     Ok(())
 }
 
-/// The number of the refusal of a site, where only the first records of the tables are lent.
-fn refused(
+/// Adds a site where only the first records of the tables are lent.
+fn added_in(
     survey: &mut Open<Plain, Assay>,
     points: &mut [PointRecord],
     readings: &mut [Reading],
     tets: &mut [TetRecord],
     lent: [usize; 3],
-) -> Result<u8, Fail> {
+) -> Result<u16, Refusal> {
     let points_lent = lent[0].min(points.len());
     let readings_lent = lent[1].min(readings.len());
     let tets_lent = lent[2].min(tets.len());
-    match survey.add(
-        &mut points[..points_lent],
-        &mut readings[..readings_lent],
-        &mut tets[..tets_lent],
-        100,
-        120,
-        120,
-        0,
-        Reading::Missing,
-    ) {
-        Ok(_) => Err(Fail::new("added")),
-        Err(refusal) => Ok(refusal.number()),
-    }
+    let mut tables = Tables {
+        points: &mut points[..points_lent],
+        readings: &mut readings[..readings_lent],
+        tets: &mut tets[..tets_lent],
+    };
+    survey.add(&mut tables, site(100, 120, 120), Reading::Missing)
 }
 
 #[test]
 fn other_lengths_than_at_creation_are_refused(rt: HostRuntime) -> Result<(), Fail> {
-    let mut points = [NO_POINT; 7];
+    let mut points = [PointRecord::default(); 7];
     let mut readings = [Reading::Missing; 7];
     let mut tets = [big_record(); 6];
-    let created = Open::create(
-        Plain,
-        Assay,
-        &mut points[..6],
-        &mut readings[..6],
-        &mut tets[..5],
-    );
-    let mut survey = match created {
-        Ok(survey) => survey,
-        Err(_) => return Err(Fail::new("not created")),
+    let mut first = Tables {
+        points: &mut points[..6],
+        readings: &mut readings[..6],
+        tets: &mut tets[..5],
     };
+    let mut survey = Open::create(Plain, Assay, &mut first).map_err(|_| Fail::new("not created"))?;
     for lent in [
         [5, 6, 5],
         [7, 6, 5],
@@ -172,11 +154,11 @@ fn other_lengths_than_at_creation_are_refused(rt: HostRuntime) -> Result<(), Fai
         [6, 6, 6],
     ] {
         assert_eq!(rt;
-            refused(&mut survey, &mut points, &mut readings, &mut tets, lent)?,
-            3
+            added_in(&mut survey, &mut points, &mut readings, &mut tets, lent),
+            Err(Refusal::NotWhole)
         );
     }
-    assert_eq!(rt; points[4], NO_POINT);
+    assert_eq!(rt; points[4], PointRecord::default());
     assert_eq!(rt; tets[0], big_record());
     Ok(())
 }
@@ -192,7 +174,7 @@ fn record(points: [u16; 4], neighbours: [u16; 4]) -> TetRecord {
 
 /// Puts whole records that are not sound into the tables of a survey with one site: twins with the
 /// points 4 1 2 3 that name each other, and twins with 0 4 2 3.
-fn put_twins(t: &mut Tables) {
+fn put_twins(t: &mut SmallTables) {
     t.tets[0] = record([4, 1, 2, 3], [NONE, 1, 1, 1]);
     t.tets[1] = record([4, 1, 2, 3], [NONE, 0, 0, 0]);
     t.tets[2] = record([0, 4, 2, 3], [3, NONE, 3, 3]);
@@ -207,12 +189,12 @@ fn twins_are_answered_by_the_rules(rt: HostRuntime) -> Result<(), Fail> {
     let before = t;
     assert_eq!(rt;
         added(&mut survey, &mut t, 100, 90, 90),
-        109,
+        Err(Refusal::NoConflict),
         "no record conflicts"
     );
     assert_eq!(rt;
         added(&mut survey, &mut t, 100, 120, 120),
-        111,
+        Err(Refusal::ShellOpen),
         "edge 2 3 is in four faces"
     );
     check_same(&rt, &t, &before);
@@ -226,7 +208,10 @@ fn a_neighbour_that_does_not_name_back_is_refused(rt: HostRuntime) -> Result<(),
     put_twins(&mut t);
     t.tets[0].neighbours[1] = 2;
     let before = t;
-    assert_eq!(rt; added(&mut survey, &mut t, 100, 90, 90), NOT_WHOLE);
+    assert_eq!(rt;
+        added(&mut survey, &mut t, 100, 90, 90),
+        Err(Refusal::NotWhole)
+    );
     check_same(&rt, &t, &before);
     Ok(())
 }

@@ -13,17 +13,11 @@ use geometry::weighted::Weighted;
 use std::test::Fail;
 
 fn point(x: u16, y: u16, z: u16, penalty: u32) -> Result<Point, Fail> {
-    match Point::new(x, y, z, penalty) {
-        Some(p) => Ok(p),
-        None => Err(Fail::new("no such point")),
-    }
+    Point::new(x, y, z, penalty).ok_or_else(|| Fail::new("no such point"))
 }
 
 fn lifted(p: Point, lift: u32) -> Result<LiftedPoint, Fail> {
-    match LiftedPoint::new(p, lift) {
-        Some(p) => Ok(p),
-        None => Err(Fail::new("too high")),
-    }
+    LiftedPoint::new(p, lift).ok_or_else(|| Fail::new("too high"))
 }
 
 /// A point without a penalty.
@@ -81,10 +75,8 @@ fn extreme_lifts_stay_exact(rt: HostRuntime) -> Result<(), Fail> {
 fn stretches_are_1_to_3(rt: HostRuntime) -> Result<(), Fail> {
     assert_eq!(rt; Stretched::new(1, 2, 3)?.lift(&at(1, 2, 3)?), 36);
     for (alpha, beta, gamma) in [(0, 2, 3), (1, 4, 3), (1, 2, 0)] {
-        match Stretched::new(alpha, beta, gamma) {
-            Ok(_) => return Err(Fail::new("made")),
-            Err(refused) => assert_eq!(rt; refused.number(), 14),
-        }
+        let made = Stretched::new(alpha, beta, gamma);
+        assert_eq!(rt; made.map_err(|refused| refused.number()), Err(14));
     }
     Ok(())
 }

@@ -4,6 +4,7 @@ use grading::assay::{Assay, Reading};
 use std::alloc::{AllocError, Global};
 use std::process::Abort;
 use std::test::Fail;
+use survey::site::Place;
 use words::contents::read_contents;
 use words::token::Token;
 
@@ -19,7 +20,7 @@ const LABEL: u32 = 0x8000_0000;
 fn outcome(heap: Global, bytes: &[u8]) -> Result<String, AllocError> {
     let contents = read_contents(heap, bytes, &Assay)?;
     match contents.refusal {
-        Some(refusal) => refusal.line(heap),
+        Some(refusal) => format!(in heap; "{refusal}\n"),
         None => {
             let tokens = contents.tokens.len();
             format!(in heap; "{tokens} tokens\n")
@@ -257,10 +258,18 @@ fn tokens_say_what_the_file_says(rt: HostRuntime) -> Result<(), Fail> {
     let contents = read_contents(heap, bytes.as_slice(), &Assay)?;
     assert!(rt; contents.tokens.len() == 3);
     match contents.tokens[1] {
-        Token::Site(site) => {
-            assert!(rt; site.word == 2 && site.x == 100 && site.y == 100 && site.z == 100);
-            assert_eq!(rt; site.penalty, 1500);
-            assert_eq!(rt; site.reading, Reading::Below(50.0));
+        Token::Site(entry) => {
+            assert_eq!(rt; entry.word, 2);
+            assert_eq!(rt;
+                entry.site.place,
+                Place {
+                    x: 100,
+                    y: 100,
+                    z: 100
+                }
+            );
+            assert_eq!(rt; entry.site.penalty, 1500);
+            assert_eq!(rt; entry.reading, Reading::Below(50.0));
             Ok(())
         }
         _ => Err(Fail::new("the second token is no site")),

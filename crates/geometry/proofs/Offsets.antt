@@ -1,18 +1,18 @@
 -- The numbers on the way to a determinant of three offsets fit 64 bits.
-use Rattle.std.proofs.Common.{◌≤◌, ℤ, ◌-ℤ◌, ◌*ℤ◌, nat_abs, arith, w64, SFits}
+use Rattle.std.proofs.Common.{ℕ, ◌^◌, ◌<◌, ◌≤◌, ℤ, ◌-ℤ◌, ◌*ℤ◌, nat_abs, arith, w64, SFits}
 use Rattle.algebra.proofs.Sizes.{abs_add, abs_sub, abs_mul, fits}
-use Rattle.geometry.specs.declared.offset.Minors.{Minors}
-use Rattle.geometry.specs.declared.offset.Offset.{Offset}
+use Rattle.geometry.specs.declared.offset.Row.{Row}
 use Rattle.geometry.specs.Limits.{Short, Small}
-use Rattle.geometry.specs.Offsets.{expansion}
+use Rattle.geometry.specs.Offsets.{Offset, Minors, expansion}
 
-pub record OffsetFits (u : Offset) : Type 0 where
+-- of a row of either kind
+pub record RowFits {n : ℕ} (u : Row n) : Type 0 where
   pub x : SFits w64 u.x
   pub y : SFits w64 u.y
   pub z : SFits w64 u.z
 
-pub offset_fits : (u : Offset) → OffsetFits u
-offset_fits u = record { x = fits u.x 2560 u.short.0 (omega arith); y = fits u.y 2560 u.short.1 (omega arith); z = fits u.z 2560 u.short.2 (omega arith) }
+pub row_fits : {n : ℕ} (u : Row n) → n < 2 ^ 63 → RowFits u
+row_fits {n} u h = record { x = fits u.x n u.within.0 h; y = fits u.y n u.within.1 h; z = fits u.z n u.within.2 h }
 
 pub record MinorFits (a b c d : ℤ) : Type 0 where
   pub one : SFits w64 (a *ℤ d)
@@ -33,13 +33,9 @@ minor_fits a b c d ha hb hc hd =
     }
 
 -- of a row and the minors below it
-pub record RowFits (u : Offset) (m : Minors) : Type 0 where
-  pub ux : SFits w64 u.x
-  pub uy : SFits w64 u.y
-  pub uz : SFits w64 u.z
-  pub mx : SFits w64 m.x
-  pub my : SFits w64 m.y
-  pub mz : SFits w64 m.z
+pub record ExpansionFits (u : Offset) (m : Minors) : Type 0 where
+  pub row : RowFits u
+  pub minors : RowFits m
   pub one : SFits w64 (u.x *ℤ m.x)
   pub two : SFits w64 (u.y *ℤ m.y)
   pub three : SFits w64 (u.z *ℤ m.z)
@@ -47,20 +43,16 @@ pub record RowFits (u : Offset) (m : Minors) : Type 0 where
   pub whole : SFits w64 (expansion u m)
   pub size : nat_abs (expansion u m) ≤ 100663296000
 
-pub row_fits : (u : Offset) (m : Minors) → RowFits u m
-row_fits u m =
-    let k = abs_mul u.x m.x u.short.0 m.small.0 in
-    let l = abs_mul u.y m.y u.short.1 m.small.1 in
-    let n = abs_mul u.z m.z u.short.2 m.small.2 in
+pub expansion_fits : (u : Offset) (m : Minors) → ExpansionFits u m
+expansion_fits u m =
+    let k = abs_mul u.x m.x u.within.0 m.within.0 in
+    let l = abs_mul u.y m.y u.within.1 m.within.1 in
+    let n = abs_mul u.z m.z u.within.2 m.within.2 in
     let kl = abs_sub (u.x *ℤ m.x) (u.y *ℤ m.y) k l in
     let all = abs_add (u.x *ℤ m.x -ℤ u.y *ℤ m.y) (u.z *ℤ m.z) kl n in
     record {
-      ux = (offset_fits u).x;
-      uy = (offset_fits u).y;
-      uz = (offset_fits u).z;
-      mx = fits m.x 13107200 m.small.0 (omega arith);
-      my = fits m.y 13107200 m.small.1 (omega arith);
-      mz = fits m.z 13107200 m.small.2 (omega arith);
+      row = row_fits u (omega arith);
+      minors = row_fits m (omega arith);
       one = fits (u.x *ℤ m.x) 33554432000 k (omega arith);
       two = fits (u.y *ℤ m.y) 33554432000 l (omega arith);
       three = fits (u.z *ℤ m.z) 33554432000 n (omega arith);

@@ -5,13 +5,17 @@ use Rattle.std.specs.Prelude.{ℕ, ◌+◌, ◌≤◌, ℤ, unsigned_abs}
 abbrev pub Near : (x y z : ℕ) → Type 0
 Near x y z = x + y + z ≤ 2560
 
+-- a whole number is at most this far from zero
+abbrev pub Within : ℕ → ℤ → Type 0
+Within limit z = unsigned_abs z ≤ limit
+
 -- so two coordinates along one axis are at most 2560 apart
 abbrev pub Short : ℤ → Type 0
-Short way = unsigned_abs way ≤ 2560
+Short = Within 2560
 
 -- and a minor of two rows of such differences is at most twice the square of that
 abbrev pub Small : ℤ → Type 0
-Small minor = unsigned_abs minor ≤ 13107200
+Small = Within 13107200
 
 -- a penalty is at most a million
 abbrev pub Light : ℕ → Type 0

@@ -1,9 +1,15 @@
 -- The way from one point to another, and the determinant of three ways.
 use Rattle.std.specs.Prelude.{◌≡◌, ℤ, pos, ◌+ℤ◌, ◌-ℤ◌, ◌*ℤ◌}
-use Rattle.geometry.specs.declared.offset.Minors.{Minors}
-use Rattle.geometry.specs.declared.offset.Offset.{Offset}
+use Rattle.geometry.specs.declared.offset.Row.{Row}
 use Rattle.geometry.specs.declared.point.Point.{Point}
 use Rattle.geometry.specs.Sides.{det}
+
+-- the way from one point to another, and the minors of two ways
+abbrev pub Offset : Type 0
+Offset = Row 2560
+
+abbrev pub Minors : Type 0
+Minors = Row 13107200
 
 -- the coordinates of b less those of a
 pub record Between (a b : Point) (u : Offset) : Type 0 where

@@ -17,9 +17,5 @@ pub fn conflicts<M: Measure>(
 ) -> bool
     ensures { result ≡ conflict_by (M.Measure.lifts measure.now) (spot a.now) (spot b.now) (spot c.now) (spot d.now) (spot e.now) }
 {
-    match measure.verdict(a, b, c, d, e) {
-        Sign::Positive => true,
-        Sign::Zero => false,
-        Sign::Negative => false,
-    }
+    measure.verdict(a, b, c, d, e) == Sign::Positive
 }

@@ -11,11 +11,12 @@ fn product(side: i64, a: &LiftedPoint, e: &LiftedPoint) -> i64
     ensures is { result ≡ side *ℤ (pos a.now.lift -ℤ pos e.now.lift) }
     ensures size { unsigned_abs result ≤ 2013265920000000000 }
 {
-    side * (a.lift as i64 - e.lift as i64)
+    side * (i64::from(a.lift) - i64::from(e.lift))
 }
 
 /// How deep `e` lies below the lifted tetrahedron `a`, `b`, `c`, `d`, scaled by the tetrahedron's Side.
 /// It is exact: no product and no sum passes 64 bits.
+// Five points one by one, as in Side: a struct of four would be no plainer, since `e` takes the place of each in turn.
 pub fn depth(
     a: &LiftedPoint,
     b: &LiftedPoint,

@@ -6,7 +6,7 @@ use crate::point::Point;
 pub const HIGHEST: u32 = 20_000_000;
 
 /// A point with the number to which a measure lifts it, within the limit of all lifts.
-#[derive(Clone, Copy)]
+#[derive(Clone, Copy, PartialEq, Eq, Hash, Debug)]
 pub struct LiftedPoint {
     pub(crate) point: Point,
     pub(crate) lift: u32,

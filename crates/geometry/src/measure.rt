@@ -28,12 +28,8 @@ pub trait Measure {
     fn verdict(&self, a: &Point, b: &Point, c: &Point, d: &Point, e: &Point) -> Sign
         ensures is { number result ≡ signum (depth_by (lifts self.now) (spot a.now) (spot b.now) (spot c.now) (spot d.now) (spot e.now)) }
     {
-        let high_a = LiftedPoint::at(a, self.lift(a));
-        let high_b = LiftedPoint::at(b, self.lift(b));
-        let high_c = LiftedPoint::at(c, self.lift(c));
-        let high_d = LiftedPoint::at(d, self.lift(d));
-        let high_e = LiftedPoint::at(e, self.lift(e));
-        Sign::of(depth(&high_a, &high_b, &high_c, &high_d, &high_e))
+        let raised = |p: &Point| LiftedPoint::at(p, self.lift(p));
+        Sign::from(depth(&raised(a), &raised(b), &raised(c), &raised(d), &raised(e)))
     }
 
     // No point that exists is lifted above the limit.

@@ -11,7 +11,7 @@ use crate::square::square;
 /// The measure that lifts a point by the square of its distance from the origin. It ignores penalties.
 ///
 /// A point conflicts under it where it lies strictly inside the sphere through the tetrahedron's points.
-#[derive(Clone, Copy)]
+#[derive(Clone, Copy, PartialEq, Eq, Hash, Default, Debug)]
 pub struct Plain;
 
 impl Measure for Plain {

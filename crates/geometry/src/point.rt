@@ -9,7 +9,7 @@ pub const HEAVIEST: u32 = 1_000_000;
 /// A point that may exist: a place in the big tetrahedron, in decimetres, and a penalty.
 ///
 /// The limits stand in the type, so whoever is lent a point need not ask about them again.
-#[derive(Clone, Copy, PartialEq, Eq, Debug)]
+#[derive(Clone, Copy, PartialEq, Eq, Hash, Debug)]
 pub struct Point {
     pub(crate) x: u16,
     pub(crate) y: u16,

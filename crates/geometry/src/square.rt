@@ -4,5 +4,5 @@ ghost use Rattle.std.specs.Prelude.{◌≡◌, ◌*◌};
 pub fn square(n: u16) -> u32
     ensures { result ≡ n * n }
 {
-    n as u32 * n as u32
+    u32::from(n) * u32::from(n)
 }

@@ -2,7 +2,7 @@ ghost use Rattle.geometry.specs.Limits.{Stretch};
 
 /// The measure that counts the square of each coordinate as often as the stretch along it says.
 /// Each stretch is 1, 2 or 3. It ignores penalties.
-#[derive(Clone, Copy, Debug)]
+#[derive(Clone, Copy, PartialEq, Eq, Hash, Debug)]
 pub struct Stretched {
     alpha: u32,
     beta: u32,
@@ -13,7 +13,7 @@ pub struct Stretched {
 }
 
 /// A stretch is not 1, 2 or 3.
-#[derive(Clone, Copy, PartialEq, Eq, Debug)]
+#[derive(Clone, Copy, PartialEq, Eq, Hash, Debug)]
 pub struct StretchOutOfRange;
 
 mod lift;

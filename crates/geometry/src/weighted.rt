@@ -8,7 +8,7 @@ use crate::plain::Plain;
 use crate::point::Point;
 
 /// The measure that lifts a point by the square of its distance from the origin, and by its penalty too.
-#[derive(Clone, Copy)]
+#[derive(Clone, Copy, PartialEq, Eq, Hash, Default, Debug)]
 pub struct Weighted;
 
 impl Measure for Weighted {

@@ -1,9 +1,14 @@
 -- Amounts of the assay: the float literals of the code are the whole numbers of the rules, and a quarter is exact. Assumes nothing.
-use Rattle.std.proofs.Common.{◌≡◌, ℕ, suc, ◌+◌, ◌*◌, ◌^◌, ◌<◌, ◌≤◌, true, false, List, [], ◌∷◌, sym, refl, subst, true≢false, lt_of_lt_of_le, mul_assoc, mul-one, mul_left_comm, arith, lit<, lit≤, pow_mono, shl_lt}
+use Rattle.std.proofs.Common.{◌≡◌, T, ⊎_elim, ℕ, suc, ◌+◌, ◌*◌, ◌^◌, ◌<◌, ◌≤◌, true, false, List, [], ◌∷◌, sym, refl, subst, true≢false, lt_of_lt_of_le, mul_assoc, mul-one, mul_left_comm, arith, lit<, lit≤, pow_mono, shl_lt}
 use lib.Ieee.{Float, nan, inf, fin, binary64, low, emax, of_bits, of_int, div, round, up, down}
 use lib.Ieee.Exact.{HasValue, round_exact}
 use lib.Ieee.Fits.{down_pos}
 use lib.Ieee.Scale.{round_same}
+use lib.Ieee.{lt, eq, le}
+use Rattle.std.specs.Ordering.{partial_le, float_partial_cmp, is_some_and, is_le}
+use Rattle.std.specs.Prelude.{Bool, cond, Some, None}
+use Rattle.std.specs.declared.cmp.Ordering.TheVariants.{Less, Equal, Greater}
+use Rattle.std.specs.Float.Order.{le_of_lt, le_of_eq, lt-or-eq}
 use Rattle.grading.specs.Assay.{whole, limits, amount}
 
 -- ---- the literals
@@ -48,3 +53,19 @@ divided (fin false m e) n h = round_same binary64 false (m * up e * 1) (1 * 4 * 
 
 pub quarter_exact : (n : ℕ) → n < 2 ^ 32 → HasValue (amount n) false n 4
 quarter_exact n h = subst (λ (x : Float). HasValue x false n 4) (sym (divided (whole n) n (whole_exact n h))) (quarter_round n h)
+
+-- ---- comparisons
+
+-- the order of floats that ranges use says at most where `le` does
+pub at_most : (x y : Float) → partial_le float_partial_cmp x y ≡ le x y
+at_most x y = go (lt x y) (eq x y) (lt y x) (le x y) refl refl refl
+  where
+    go : (less same more most : Bool) → lt x y ≡ less → eq x y ≡ same → le x y ≡ most
+        → is_some_and is_le (cond less (Some Less) (cond same (Some Equal) (cond more (Some Greater) None))) ≡ most
+    go true same more true h k l = refl
+    go true same more false h k l = absurd (subst T l (le_of_lt x y (subst T (sym h) tt)))
+    go false true more true h k l = refl
+    go false true more false h k l = absurd (subst T l (le_of_eq x y (subst T (sym k) tt)))
+    go false false more true h k l = absurd (⊎_elim (λ t. subst T h t) (λ t. subst T k t) (lt-or-eq x y (subst T (sym l) tt)))
+    go false false true false h k l = refl
+    go false false false false h k l = refl

@@ -7,17 +7,12 @@ use Rattle.std.specs.Float.Ieee.Fits.{up_pos, down_pos}
 use Rattle.std.specs.Float.Ieee.Positive.{positive, above, above_of_le, le_trans_positive}
 use Rattle.std.specs.Float.{float_max, nan, inf, fin}
 use Rattle.std.proofs.lemmas.List.Sums.{sum_by-cons}
+use Rattle.std.proofs.Math.Bool.{or_comm}
+use Rattle.std.proofs.lemmas.Float.{T_from_true}
 use Rattle.std.proofs.lemmas.Bool.{ltb-false, or_parts}
 use Rattle.std.proofs.lemmas.Bool.Decides.{nat_tests}
 use Rattle.grading.specs.declared.assay.Reading.{Reading}
 use Rattle.grading.specs.Assay.{limits, counted, reached, assay_class}
-
-passes : (b : Bool) → T b → b ≡ true
-passes true t = refl
-passes false t = absurd t
-
-holds : (b : Bool) → b ≡ true → T b
-holds b e = subst T (sym e) tt
 
 -- ---- a positive limit
 
@@ -58,7 +53,7 @@ never_below : (a b : ℕ) (x : Bool) → 0 < b → (nat_lt 0 (a + b) || x) ≢ f
 never_below a b x h e = let n = ltb-false 0 (a + b) (or_parts _ _ e).0 in omega arith
 
 at_least : (a b : ℕ) → (nat_lt a b || (a == b && true)) ≡ false → T (nat_lt b a || (b == a && true))
-at_least a b e = let h : (nat_lt b a || (b == a && true)) ≡ true = grind (arith, nat_tests) in holds _ h
+at_least a b e = let h : (nat_lt b a || (b == a && true)) ≡ true = grind (arith, nat_tests) in T_from_true _ h
 
 -- a number that is not at most x, which is above zero, is at least x
 no_smaller : (x y : Float) → T (above x) → is_nan y ≡ false → le y x ≡ false → T (le x y)
@@ -98,7 +93,7 @@ pub most_reaches : (l x y : Float) → T (positive l) → le l (float_max x y) �
 most_reaches l x y p = go (le y x) (is_nan y) refl refl
   where
     go : (b n : Bool) → le y x ≡ b → is_nan y ≡ n → le l (cond (b || n) x y) ≡ (le l x || le l y)
-    go true n h k = absorbed _ _ (λ t. reached_beyond l y x p t (holds _ h))
+    go true n h k = absorbed _ _ (λ t. reached_beyond l y x p t (T_from_true _ h))
     go false true h k = absorbed _ _ (λ t. absurd (reached_number l y p t k))
     go false false h k = absorbed_left _ _ (λ t. reached_beyond l x y p t (no_smaller x y (above_of_le l x p t) k h))
 
@@ -133,12 +128,6 @@ same_class : (a b c d a' b' c' d' : Float)
     → reached limits (float_max (float_max (float_max a b) c) d) ≡ reached limits (float_max (float_max (float_max a' b') c') d')
 same_class a b c d a' b' c' d' h =
     same_reached limits _ _ limits_positive (λ l p. four_reach l a b c d p ∙ h l ∙ sym (four_reach l a' b' c' d' p))
-
-or_comm : (p q : Bool) → (p || q) ≡ (q || p)
-or_comm true true = refl
-or_comm true false = refl
-or_comm false true = refl
-or_comm false false = refl
 
 or_swap : (p q r : Bool) → ((p || q) || r) ≡ ((p || r) || q)
 or_swap true q r = refl

@@ -1,6 +1,7 @@
 -- Soil: the codes of the four kinds, and the code that most of four readings have. Assumes nothing.
-use Rattle.std.specs.Prelude.{ℕ, zero, suc, ◌<◌, ◌≤◌, cond, ◌&&◌, List, [], ◌∷◌, Some, None, count_by, Option, ◌==◌, nat_eq, nat_lt}
+use Rattle.std.specs.Prelude.{◌≡◌, ℕ, zero, suc, ◌<◌, ◌≤◌, cond, ◌&&◌, List, [], ◌∷◌, Some, None, count_by, Option, ◌==◌, nat_eq, nat_lt, Result, MatchResult}
 use Rattle.grading.specs.declared.soil.Reading.{Reading}
+use Rattle.grading.specs.declared.soil.UnknownSoil.{UnknownSoil}
 use Rattle.grading.specs.declared.soil.Reading.TheVariants.{Sand, Clay, Peat, Fill}
 
 abbrev pub code : Reading → ℕ
@@ -9,14 +10,22 @@ code Clay = 1
 code Peat = 2
 code Fill = 3
 
+-- the result is the kind with this code, or the refusal of a code that no kind has
+abbrev pub Coded : ℕ → Result Reading UnknownSoil → Type 0
+Coded n r = MatchResult r (λ kind. code kind ≡ n) (λ e. (e.0 ≡ n) × (3 < n))
+
 -- how many of some codes are k
 abbrev pub votes : ℕ → List ℕ → ℕ
 votes k cs = count_by (λ c. nat_eq c k) cs
 
+-- k where it has more votes than the leader, who stays otherwise
+abbrev pub more_voted : (leader k : ℕ) → List ℕ → ℕ
+more_voted leader k cs = cond (nat_lt (votes leader cs) (votes k cs)) k leader
+
 -- the code up to k that most have, the lowest where several tie
 abbrev pub winner : ℕ → List ℕ → ℕ
 winner zero cs = 0
-winner (suc k) cs = cond (nat_lt (votes (winner k cs) cs) (votes (suc k) cs)) (suc k) (winner k cs)
+winner (suc k) cs = more_voted (winner k cs) (suc k) cs
 
 -- k leads among the codes below n: none has more votes, and a lower one has fewer
 pub record Leads (n : ℕ) (k : ℕ) (cs : List ℕ) : Type 0 where

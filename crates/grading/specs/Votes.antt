@@ -66,3 +66,7 @@ leads_more k w cs low h =
 pub winner_leads : (k : ℕ) (cs : List ℕ) → Leads (suc k) (winner k cs) cs
 winner_leads zero cs = leads_none cs
 winner_leads (suc k) cs = leads_more k (winner k cs) cs (winner_le k cs) (winner_leads k cs)
+
+-- of the four codes
+pub leads_of : (w : ℕ) (cs : List ℕ) → w ≡ winner 3 cs → Leads 4 w cs
+leads_of w cs e = subst (λ k. Leads 4 k cs) (sym e) (winner_leads 3 cs)

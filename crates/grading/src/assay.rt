@@ -1,6 +1,5 @@
 //! Chemical assay: amounts of a substance in the ground, in milligrams per kilogram.
 ghost use Rattle.std.specs.Prelude.{◌≡◌, ◌<◌, false, length};
-ghost use Rattle.std.specs.Float.Ieee.{le};
 ghost use Rattle.std.specs.Float.{float_max};
 ghost use Rattle.std.specs.Float.Ieee.Exact.{HasValue};
 ghost use Rattle.grading.specs.Assay.{admitted_amount, admitted_reading, amount, assay_class, counted, largest_counted, reached, reading_of};
@@ -21,7 +20,7 @@ pub enum Reading {
 }
 
 /// The grading by the largest amount found at a tetrahedron's points.
-#[derive(Clone, Copy, Debug)]
+#[derive(Clone, Copy, PartialEq, Eq, Hash, Default, Debug)]
 pub struct Assay;
 
 /// The largest amount that is admitted.
@@ -49,17 +48,18 @@ impl Grading for Assay {
 
     fn admits(&self, reading: &Reading) -> bool {
         match reading {
-            Reading::Measured(amount) => in_range(*amount),
-            Reading::Below(limit) => in_range(*limit),
+            Reading::Measured(amount) | Reading::Below(amount) => in_range(*amount),
             Reading::Missing => true,
         }
     }
 
+    #[tactic(auto, using(crate::proofs::Amounts::literal_limits))]
     fn class(&self, a: &Reading, b: &Reading, c: &Reading, d: &Reading) -> u8 {
         limits_reached(&LIMITS, largest(a, b, c, d))
     }
 
     fn decode(&self, tag: u8, value: u32) -> Option<Reading> {
+        // The tags are numbers by the format of survey words.
         match tag {
             0 => Some(Reading::Measured(quarter(value))),
             1 => Some(Reading::Below(quarter(value))),
@@ -70,21 +70,16 @@ impl Grading for Assay {
 }
 
 /// Amounts from 0 to a million are admitted.
+#[tactic(auto, using(crate::proofs::Amounts::at_most, crate::proofs::Amounts::literal_zero, crate::proofs::Amounts::literal_million))]
 fn in_range(amount: f64) -> bool
     ensures { result ≡ admitted_amount amount }
 {
-    reaches(amount, 0.0) && reaches(LARGEST, amount)
-}
-
-/// Whether an amount is at least a limit. Not-a-number reaches no limit and is none that is reached.
-fn reaches(amount: f64, limit: f64) -> bool
-    ensures { result ≡ le limit amount }
-{
-    limit <= amount
+    (0.0..=LARGEST).contains(&amount)
 }
 
 /// A measured amount counts as itself. Not-a-number, which a caller may have put into a record,
 /// counts as zero, and so do the other two cases.
+#[tactic(auto, using(crate::proofs::Amounts::literal_zero))]
 fn counts_as(reading: &Reading) -> f64
     ensures { result ≡ counted reading.now }
 {
@@ -113,24 +108,19 @@ fn larger(a: f64, b: f64) -> f64
     if b <= a || b.is_nan() { a } else { b }
 }
 
-/// How many of the limits an amount reaches.
+/// How many of the limits an amount reaches, which is at least as large. Not-a-number reaches none.
 fn limits_reached(limits: &[f64], amount: f64) -> u8
     requires { length limits.now < 256 }
     ensures { result ≡ reached limits.now amount }
 {
-    let mut count = 0;
-    for limit in limits {
-        if reaches(amount, *limit) {
-            count += 1;
-        }
-    }
-    count
+    limits.iter().filter(|limit| **limit <= amount).count() as u8
 }
 
 /// Survey words give amounts in quarters of a milligram per kilogram.
+#[tactic(auto, using(crate::proofs::Amounts::literal_four, crate::proofs::Amounts::quarter_exact))]
 fn quarter(value: u32) -> f64
     ensures is { result ≡ amount value }
     ensures exact { HasValue result false value 4 }
 {
-    value as f64 / 4.0
+    f64::from(value) / 4.0
 }

@@ -21,6 +21,7 @@ pub trait Grading {
 
     /// The price class, 0 to 7, of a tetrahedron with these readings at its points. Any readings
     /// have one, admitted or not.
+    // Four readings and no array of them: the laws below swap two of them by name.
     fn class(
         &self,
         a: &Self::Reading,

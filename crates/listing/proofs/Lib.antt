@@ -1,2 +1,1 @@
 mod Quarters
-mod Texts

@@ -7,19 +7,20 @@ use Rattle.words.specs.declared.contents.Contents.{Contents}
 use Rattle.words.specs.declared.refusal.Refusal.{Refusal}
 use Rattle.words.specs.declared.token.Site.{Site}
 use Rattle.words.specs.declared.token.Token.{Token}
-use Rattle.words.specs.Refusal.{refusal_line}
+use Rattle.words.specs.Contents.{label_text}
+use Rattle.words.specs.Refusal.{refusal_text as refusal_line}
 use Rattle.words.specs.Token.{entry, sites_in}
 
 abbrev pub label_line : List ℕ → List ℕ
 label_line text = codes "label " ++ (text ++ codes "\n")
 
 abbrev pub place_text : {R : Type 0} → Site R → List ℕ
-place_text s = decimal s.x ++ (codes " " ++ (decimal s.y ++ (codes " " ++ decimal s.z)))
+place_text s = let place = s.site.place in decimal place.x ++ (codes " " ++ (decimal place.y ++ (codes " " ++ decimal place.z)))
 
 -- the site's number, place and penalty, and its reading in words
 abbrev pub site_line : {R : Type 0} → ℕ → Site R → List ℕ → List ℕ
 site_line number s reading =
-    codes "site " ++ (decimal number ++ (codes " " ++ (place_text s ++ (codes " penalty " ++ (decimal s.penalty ++ (codes " " ++ (reading ++ codes "\n")))))))
+    codes "site " ++ (decimal number ++ (codes " " ++ (place_text s ++ (codes " penalty " ++ (decimal s.site.penalty ++ (codes " " ++ (reading ++ codes "\n")))))))
 
 abbrev pub end_line : ℕ → List ℕ
 end_line sites = codes "end " ++ (decimal sites ++ codes "\n")
@@ -42,7 +43,7 @@ token_lines number (t ∷ ts) = token_line number t ++ token_lines (number + sit
 -- the refusal line, where the file is refused
 abbrev pub refusal_text : Option Refusal → List ℕ
 refusal_text None = []
-refusal_text (Some r) = refusal_line r
+refusal_text (Some r) = refusal_line r.fault (label_text r.label)
 
 -- sites are numbered from 4
 abbrev pub listing_text : Contents Reading → List ℕ

@@ -1,24 +1,22 @@
 //! The lines of a listing.
-ghost use Rattle.std.specs.Prelude.{◌≡◌, ◌^◌, ◌<◌, ◌++◌, length, IfOk, string_bytes, codes};
-ghost use Rattle.listing.specs.Lines.{end_line, label_line, listing_text, place_text, reading_text, site_line, token_line, token_lines};
+ghost use Rattle.std.specs.Prelude.{◌≡◌, ◌^◌, ◌<◌, length, IfOk, Some, string_bytes};
+ghost use Rattle.listing.specs.Lines.{listing_text, reading_text, token_line, token_lines};
 
-use crate::amount::amount_text;
+use crate::amount::Amount;
 use grading::assay::Reading;
 use std::alloc::{AllocError, Global};
+use std::fmt;
+use survey::site::FIRST_SITE;
 use words::contents::Contents;
-use words::token::{Site, Token};
-
-/// Sites are numbered from 4 on: numbers 0 to 3 are the corners of the big tetrahedron.
-const FIRST_SITE: usize = 4;
+use words::token::Token;
 
 /// One line for each token, and at a fault the refusal line behind them.
 pub(crate) fn listing(heap: Global, contents: &Contents<Reading>) -> Result<String, AllocError>
     ensures { IfOk result (λ s. string_bytes s ≡ listing_text contents.now) }
 {
-    let mut text = token_lines(heap, contents.tokens.as_slice())?;
+    let mut text = token_lines(heap, &contents.tokens)?;
     if let Some(refusal) = contents.refusal {
-        let line = refusal.line(heap)?;
-        text.push_str(line.as_str())?;
+        writeln!(text, "{refusal}")?;
     }
     Ok(text)
 }
@@ -28,89 +26,56 @@ fn token_lines(heap: Global, tokens: &[Token<Reading>]) -> Result<String, AllocE
     ensures { IfOk result (λ s. string_bytes s ≡ token_lines 4 tokens.now) }
 {
     let mut text = String::new(heap);
-    let mut number = FIRST_SITE;
+    let mut number = usize::from(FIRST_SITE);
     for token in tokens {
-        let line = token_line(heap, number, token)?;
-        text.push_str(line.as_str())?;
+        write!(text, "{}", Line { number, token })?;
         number += token.sites();
     }
     Ok(text)
 }
 
-/// The line of one token; `number` is the number that the next site gets.
-fn token_line(heap: Global, number: usize, token: &Token<Reading>) -> Result<String, AllocError>
-    ensures { IfOk result (λ s. string_bytes s ≡ token_line number token.now) }
-{
-    match token {
-        Token::Label { text, .. } => label_line(heap, *text),
-        Token::Site(site) => {
-            let reading = reading_text(heap, &site.reading)?;
-            site_line(heap, number, site, reading.as_str())
-        }
-        Token::End { sites } => end_line(heap, *sites),
-    }
-}
-
-fn label_line(heap: Global, text: &str) -> Result<String, AllocError>
-    ensures { IfOk result (λ s. string_bytes s ≡ label_line text.now) }
-{
-    format!(in heap; "label {text}\n")
-}
-
-fn site_line(
-    heap: Global,
+/// The line of one token.
+#[derive(Clone, Copy)]
+struct Line<'a> {
+    /// The number that the next site gets.
     number: usize,
-    site: &Site<Reading>,
-    reading: &str,
-) -> Result<String, AllocError>
-    ensures { IfOk result (λ s. string_bytes s ≡ site_line number site.now reading.now) }
-{
-    let place = place_text(heap, site)?;
-    let place = place.as_str();
-    let penalty = site.penalty;
-    format!(in heap; "site {number} {place} penalty {penalty} {reading}\n")
+    token: &'a Token<'a, Reading>,
 }
 
-fn place_text(heap: Global, site: &Site<Reading>) -> Result<String, AllocError>
-    ensures { IfOk result (λ s. string_bytes s ≡ place_text site.now) }
-{
-    let x = site.x;
-    let y = site.y;
-    let z = site.z;
-    format!(in heap; "{x} {y} {z}")
-}
+impl fmt::Display for Line<'_> {
+    ghost output = { λ line. Some (token_line line.number line.token.now) };
 
-fn end_line(heap: Global, sites: u32) -> Result<String, AllocError>
-    ensures { IfOk result (λ s. string_bytes s ≡ end_line sites) }
-{
-    format!(in heap; "end {sites}\n")
+    fn fmt<W: fmt::Write>(&self, f: &mut fmt::Formatter<W>) -> fmt::Result {
+        match self.token {
+            Token::Label { text, .. } => writeln!(f, "label {text}"),
+            Token::Site(entry) => {
+                let place = entry.site.place;
+                let (x, y, z) = (place.x, place.y, place.z);
+                let penalty = entry.site.penalty;
+                let reading = InWords(&entry.reading);
+                writeln!(
+                    f,
+                    "site {} {x} {y} {z} penalty {penalty} {reading}",
+                    self.number
+                )
+            }
+            Token::End { sites } => writeln!(f, "end {sites}"),
+        }
+    }
 }
 
 /// A reading in words.
-fn reading_text(heap: Global, reading: &Reading) -> Result<String, AllocError>
-    ensures { IfOk result (λ s. string_bytes s ≡ reading_text reading.now) }
-{
-    match reading {
-        Reading::Measured(amount) => {
-            let amount = amount_text(heap, *amount)?;
-            measured_text(heap, amount.as_str())
+#[derive(Clone, Copy)]
+struct InWords<'a>(&'a Reading);
+
+impl fmt::Display for InWords<'_> {
+    ghost output = { λ reading. Some (reading_text reading.0.now) };
+
+    fn fmt<W: fmt::Write>(&self, f: &mut fmt::Formatter<W>) -> fmt::Result {
+        match self.0 {
+            Reading::Measured(amount) => write!(f, "measured {}", Amount(*amount)),
+            Reading::Below(limit) => write!(f, "below {}", Amount(*limit)),
+            Reading::Missing => write!(f, "missing"),
         }
-        Reading::Below(limit) => {
-            let limit = amount_text(heap, *limit)?;
-            below_text(heap, limit.as_str())
-        }
-        Reading::Missing => String::from_str(heap, "missing"),
     }
-}
-
-fn measured_text(heap: Global, amount: &str) -> Result<String, AllocError>
-    ensures { IfOk result (λ s. string_bytes s ≡ codes "measured " ++ amount.now) }
-{
-    format!(in heap; "measured {amount}")
-}
-
-fn below_text(heap: Global, limit: &str) -> Result<String, AllocError>
-    ensures { IfOk result (λ s. string_bytes s ≡ codes "below " ++ limit.now) }
-{
-    format!(in heap; "below {limit}")
 }

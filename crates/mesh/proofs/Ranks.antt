@@ -1,11 +1,11 @@
 -- The numbers that pass a test, by their place among them, and what a filter keeps by its numbers.
-use Rattle.std.proofs.Common.{◌≡◌, ℕ, zero, suc, ◌+◌, ◌*◌, ◌/◌, ◌%◌, ◌<◌, ◌≤◌, Bool, true, false, cond, ◌&&◌, List, [], ◌∷◌, ◌++◌, map, length, get_or, take, count_by, filter, sym, refl, ap, ◌∙◌, inl, inr, ⊎_elim, add-one, one-add, arith}
+use Rattle.std.proofs.Common.{◌≡◌, ℕ, zero, suc, ◌+◌, ◌*◌, ◌/◌, ◌%◌, ◌<◌, ◌≤◌, Bool, true, false, cond, ◌&&◌, List, [], ◌∷◌, ◌++◌, map, length, get_or, take, count_by, filter, sym, refl, ap, ◌∙◌, inl, inr, ⊎_elim, add-one, arith}
 use Rattle.std.specs.List.{prefix_len, AllByRecursion}
 use Rattle.std.proofs.lemmas.List.Elements.{filter_more}
 use Rattle.std.proofs.ByRecursion.{All-append, All-weaker}
 use Rattle.std.proofs.lemmas.List.{length-append, get_or_append_left, get_or_at, take_all, map-append}
-use Rattle.std.proofs.lemmas.List.Sums.{sum_by-cons}
-use Rattle.std.proofs.lemmas.Bool.{cases_Bool, cases_eq, cases_lt}
+use Rattle.std.proofs.lemmas.List.Sums.{sum_by-cons, prefix_len_passes, prefix_len_stops}
+use Rattle.std.proofs.lemmas.Bool.{cases_Bool, cases_eq, cases_lt, both_ways}
 use Rattle.algebra.proofs.Lists.{bit, counted}
 use Rattle.mesh.specs.Added.{passing, rank}
 use Rattle.mesh.specs.Records.{every}
@@ -108,12 +108,9 @@ at_most_one p (x ∷ xs) d h = elim (cases_Bool (p x)) [
 
 -- the first that fails is found where one fails
 pub leading_finds : {X : Type 0} (p : X → Bool) (xs : List X) (d : X) (i : ℕ) → i < length xs → p (get_or xs i d) ≡ false → (prefix_len p xs < length xs) × (p (get_or xs (prefix_len p xs) d) ≡ false)
-leading_finds p [] d i l e = absurd (omega arith)
-leading_finds p (x ∷ xs) d zero l e = rw e (omega arith, e)
-leading_finds p (x ∷ xs) d (suc i) l e = elim (cases_Bool (p x)) [
-  | inl f ↦ let h = leading_finds p xs d i (omega arith) e in rw (f, one-add) (omega (arith, h.0), h.1)
-  | inr f ↦ rw f (omega arith, f)
-]
+leading_finds p xs d i l e =
+    let within : prefix_len p xs < length xs = ⊎_elim (λ k. k) (λ k. absurd (both_ways (p (get_or xs i d)) e (prefix_len_passes p xs i d (omega arith)))) (cases_lt (prefix_len p xs) (length xs)) in
+    (within, prefix_len_stops p xs d within)
 
 -- ---- one more number, and a face by its number
 

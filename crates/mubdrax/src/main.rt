@@ -1,22 +1,24 @@
 //! Reads a survey file and prints the statement of its survey, or why it is refused.
 #![tactic(auto)]
 
-use anyhow::anyhow;
+use report::error::ReportError;
 use report::report::report_on;
 use std::io::Read;
-
-/// One byte more than the longest file: what is longer is refused for its length all the same.
-const ENOUGH: u64 = 32_769;
+use words::reader::ENOUGH;
 
 fn main(rt: HostRuntime) -> anyhow::Result<()> {
     let heap = rt.alloc();
     let mut file = Vec::new(heap);
+    // Each program reads its input itself: no contract can say what a stream gives.
     rt.stdin().take(ENOUGH).read_to_end(&mut file)?;
-    let report = report_on(heap, file.as_slice())?;
-    let text = &report.text;
-    print!(rt; "{text}")?;
-    if report.refused {
-        return Err(anyhow!("the file is refused"));
+    match report_on(heap, &file) {
+        Ok(text) => print!(rt; "{text}")?,
+        Err(error) => {
+            if let ReportError::Refused(line) = &error {
+                print!(rt; "{line}")?;
+            }
+            return Err(error.into());
+        }
     }
     Ok(())
 }

@@ -1,5 +1,5 @@
 -- What each exported call answers, by what the survey's own calls answer.
-use Rattle.std.specs.Prelude.{◌≡◌, ℕ, false, ◌⊎◌, length, Ok, Err, Result}
+use Rattle.std.specs.Prelude.{◌≡◌, ℕ, false, ◌⊎◌, Ok, Err, Result}
 use Rattle.geometry.specs.PlainLift.{plain}
 use Rattle.geometry.specs.Spots.{Spot}
 use Rattle.geometry.specs.declared.plain.Plain.{Plain}
@@ -53,7 +53,7 @@ pub record CreatedFor (k k' : KeptCounts) (t t' : Tables) (a : Answer) : Type 0 
   pub measure : Plain
   pub grading : RecordAssay
   pub result : Result OpenSurvey Refusal
-  pub created : Created measure grading t.points t'.points t.readings t'.readings t.tets t'.tets result
+  pub created : Created measure grading t t' result
   pub starts : Starts (λ _. plain) (λ _. admitted_record) (λ _. record_class) t' result
   pub begins : Begins k k' result a
 
@@ -73,7 +73,7 @@ pub record Added (k k' : KeptCounts) (t t' : Tables) (s : Spot) (r : ReadingReco
   pub result : Result ℕ Refusal
   pub counts : Stand k before.counts
   pub counts_after : Stand k' after.counts
-  pub adds : AddsTo plain admitted_record before.counts t.points t.readings t.tets s r after.counts t'.points t'.readings t'.tets result
+  pub adds : AddsTo plain admitted_record before.counts t s r after.counts t' result
   pub carries_on : CarriesOn (opened before) t (add s r, add_told result) (opened after) t'
   pub answer : a ≡ answer_of result
 
@@ -87,7 +87,7 @@ pub record Found (k : KeptCounts) (t : Tables) (x y z : ℕ) (a : Answer) : Type
   pub survey : SealedSurvey
   pub result : Result ℕ Refusal
   pub counts : Stand k survey.counts
-  pub located : Located survey.counts t.points (length t.readings) t.tets x y z result
+  pub located : Located survey.counts t x y z result
   pub carries_on : CarriesOn (closed survey) t (locate x y z, located_answer result) (closed survey) t
   pub answer : a ≡ answer_of result
 
@@ -101,7 +101,7 @@ pub record Figured (k : KeptCounts) (t : Tables) (f f' : Statement) (a : Answer)
   pub survey : SealedSurvey
   pub result : Result (Unit {0}) Refusal
   pub counts : Stand k survey.counts
-  pub figures : Stated assay survey.counts t.points t.readings t.tets f f' result
+  pub figures : Stated assay survey.counts t f f' result
   pub carries_on : CarriesOn (closed survey) t (state, state_told f' result) (closed survey) t
   pub answer : a ≡ done_or_refused result
 

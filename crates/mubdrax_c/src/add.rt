@@ -2,13 +2,14 @@ ghost use Rattle.mubdrax_c.specs.Calls.{AddedFor};
 
 use crate::answer::Answer;
 use crate::counts::KeptCounts;
-use crate::reading::{ReadingRecord, RecordAssay};
-use geometry::plain::Plain;
+use crate::reading::ReadingRecord;
 use mesh::record::TetRecord;
-use survey::open::Open;
 use survey::record::PointRecord;
+use survey::site::{Place, Site};
+use survey::tables::Tables;
 
 /// Adds a site to the survey with these counts, and keeps the new ones. A refusal changes nothing.
+// The tables and the coordinates come one by one, as C hands them over.
 #[unsafe(no_mangle)]
 pub extern "C" fn mubdrax_add(
     counts: &mut KeptCounts,
@@ -23,11 +24,16 @@ pub extern "C" fn mubdrax_add(
 ) -> Answer
     ensures { AddedFor counts.old counts.new (record { points = points.old; readings = readings.old; tets = tets.old }) (record { points = points.new; readings = readings.new; tets = tets.new }) (record { x = x; y = y; z = z; penalty = penalty }) reading result }
 {
-    let Some(known) = counts.known() else {
+    let Some(mut survey) = counts.resume() else {
         return Answer::no_survey();
     };
-    let mut survey = Open::resume(known, Plain, RecordAssay);
-    let result = survey.add(points, readings, tets, x, y, z, penalty, reading);
-    *counts = KeptCounts::of(&survey.counts());
-    Answer::of(result)
+    let mut tables = Tables {
+        points,
+        readings,
+        tets,
+    };
+    let place = Place { x, y, z };
+    let outcome = survey.add(&mut tables, Site { place, penalty }, reading);
+    *counts = KeptCounts::from(survey.counts());
+    Answer::from(outcome)
 }

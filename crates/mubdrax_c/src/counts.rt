@@ -1,9 +1,10 @@
 //! What a survey remembers, as the caller keeps it between calls.
-ghost use Rattle.std.specs.Prelude.{◌≡◌};
-ghost use Rattle.survey.specs.Resumes.{CountsOf};
-ghost use Rattle.mubdrax_c.specs.Kept.{Stand};
+ghost use Rattle.mubdrax_c.specs.Kept.{ResumedFrom, Stand};
 
+use crate::reading::RecordAssay;
+use geometry::plain::Plain;
 use survey::counts::Counts;
+use survey::open::Open;
 
 /// The used records of each table and the table lengths at creation. They come from outside, and may be anything.
 #[repr(C)]
@@ -16,22 +17,25 @@ pub struct KeptCounts {
 }
 
 impl KeptCounts {
-    /// The numbers of a survey's counts.
-    pub(crate) fn of(counts: &Counts) -> KeptCounts
-        ensures { Stand result counts.now }
+    /// The survey with these counts, if one can have them.
+    pub(crate) fn resume(&self) -> Option<Open<Plain, RecordAssay>>
+        ensures { ResumedFrom self.now result }
     {
+        let counts = Counts::new(self.points, self.tets, self.point_records, self.tet_records)?;
+        Some(Open::resume(counts, Plain, RecordAssay))
+    }
+}
+
+/// The numbers of a survey's counts.
+impl From<Counts> for KeptCounts {
+    ghost from_gives = { λ counts kept. Stand kept counts };
+
+    fn from(counts: Counts) -> KeptCounts {
         KeptCounts {
             points: counts.points(),
             tets: counts.tets(),
             point_records: counts.point_records(),
             tet_records: counts.tet_records(),
         }
-    }
-
-    /// The counts with these numbers, if a survey can have them.
-    pub(crate) fn known(&self) -> Option<Counts>
-        ensures { CountsOf self.now.points self.now.tets self.now.point_records self.now.tet_records result }
-    {
-        Counts::new(self.points, self.tets, self.point_records, self.tet_records)
     }
 }

@@ -7,8 +7,10 @@ use geometry::plain::Plain;
 use mesh::record::TetRecord;
 use survey::open::Open;
 use survey::record::PointRecord;
+use survey::tables::Tables;
 
 /// Creates a survey without sites over the caller's tables, and writes its counts. A refusal changes nothing.
+// The tables come one by one, as C hands them over.
 #[unsafe(no_mangle)]
 pub extern "C" fn mubdrax_create(
     counts: &mut KeptCounts,
@@ -18,11 +20,16 @@ pub extern "C" fn mubdrax_create(
 ) -> Answer
     ensures { CreatedFor counts.old counts.new (record { points = points.old; readings = readings.old; tets = tets.old }) (record { points = points.new; readings = readings.new; tets = tets.new }) result }
 {
-    match Open::create(Plain, RecordAssay, points, readings, tets) {
+    let mut tables = Tables {
+        points,
+        readings,
+        tets,
+    };
+    match Open::create(Plain, RecordAssay, &mut tables) {
         Ok(survey) => {
-            *counts = KeptCounts::of(&survey.counts());
+            *counts = KeptCounts::from(survey.counts());
             Answer::accepted(0)
         }
-        Err(refusal) => Answer::refused(&refusal),
+        Err(refusal) => Answer::from(refusal),
     }
 }

@@ -2,13 +2,14 @@ ghost use Rattle.mubdrax_c.specs.Calls.{LocatedFor};
 
 use crate::answer::Answer;
 use crate::counts::KeptCounts;
-use crate::reading::{ReadingRecord, RecordAssay};
-use geometry::plain::Plain;
+use crate::reading::ReadingRecord;
 use mesh::record::TetRecord;
-use survey::open::Open;
 use survey::record::PointRecord;
+use survey::site::Place;
+use survey::tables::TablesRef;
 
 /// The lowest used record that owns a place, in the survey with these counts.
+// The tables and the coordinates come one by one, as C hands them over.
 #[unsafe(no_mangle)]
 pub extern "C" fn mubdrax_locate(
     counts: &KeptCounts,
@@ -21,9 +22,13 @@ pub extern "C" fn mubdrax_locate(
 ) -> Answer
     ensures { LocatedFor counts.now (record { points = points.now; readings = readings.now; tets = tets.now }) x y z result }
 {
-    let Some(known) = counts.known() else {
+    let Some(survey) = counts.resume() else {
         return Answer::no_survey();
     };
-    let survey = Open::resume(known, Plain, RecordAssay).seal();
-    Answer::of(survey.locate(points, readings, tets, x, y, z))
+    let tables = TablesRef {
+        points,
+        readings,
+        tets,
+    };
+    Answer::from(survey.seal().locate(&tables, Place { x, y, z }))
 }

@@ -9,6 +9,8 @@ use grading::grading::Grading;
 
 /// A reading as the caller's table holds it: kind 0 is measured, 1 below and 2 missing, where the amount is not
 /// looked at. A survey admits no other kind, and counts one that stands in a table as missing.
+///
+/// C has no enum with values, so the numbers of the kinds are its interface.
 #[repr(C)]
 #[derive(Clone, Copy)]
 pub struct ReadingRecord {
@@ -19,11 +21,11 @@ pub struct ReadingRecord {
 /// The kinds from 0 to this number are known.
 const LAST_KIND: u32 = 2;
 
-impl ReadingRecord {
-    /// The record of a reading.
-    fn of(reading: Reading) -> ReadingRecord
-        ensures { result ≡ as_record reading }
-    {
+/// The record of a reading.
+impl From<Reading> for ReadingRecord {
+    ghost from_gives = { λ reading made. made ≡ as_record reading };
+
+    fn from(reading: Reading) -> ReadingRecord {
         match reading {
             Reading::Measured(amount) => ReadingRecord { kind: 0, amount },
             Reading::Below(amount) => ReadingRecord { kind: 1, amount },
@@ -33,18 +35,22 @@ impl ReadingRecord {
             },
         }
     }
+}
 
-    /// The reading that the record stands for.
-    fn reading(&self) -> Reading
-        ensures { result ≡ stands_for self.now }
-    {
-        match self.kind {
-            0 => Reading::Measured(self.amount),
-            1 => Reading::Below(self.amount),
+/// The reading that a record stands for.
+impl From<&ReadingRecord> for Reading {
+    ghost from_gives = { λ kept reading. reading ≡ stands_for kept.now };
+
+    fn from(kept: &ReadingRecord) -> Reading {
+        match kept.kind {
+            0 => Reading::Measured(kept.amount),
+            1 => Reading::Below(kept.amount),
             _ => Reading::Missing,
         }
     }
+}
 
+impl ReadingRecord {
     fn is_known(&self) -> bool
         ensures { result ≡ known_kind self.now }
     {
@@ -74,7 +80,7 @@ impl Grading for RecordAssay {
     ghost back = { λ g a b c d. back_swap (stands_for a) (stands_for b) (stands_for c) (stands_for d) };
 
     fn admits(&self, reading: &ReadingRecord) -> bool {
-        reading.is_known() && Assay.admits(&reading.reading())
+        reading.is_known() && Assay.admits(&Reading::from(reading))
     }
 
     fn class(
@@ -84,13 +90,15 @@ impl Grading for RecordAssay {
         c: &ReadingRecord,
         d: &ReadingRecord,
     ) -> u8 {
-        Assay.class(&a.reading(), &b.reading(), &c.reading(), &d.reading())
+        Assay.class(
+            &Reading::from(a),
+            &Reading::from(b),
+            &Reading::from(c),
+            &Reading::from(d),
+        )
     }
 
     fn decode(&self, tag: u8, value: u32) -> Option<ReadingRecord> {
-        match Assay.decode(tag, value) {
-            Some(reading) => Some(ReadingRecord::of(reading)),
-            None => None,
-        }
+        Assay.decode(tag, value).map(ReadingRecord::from)
     }
 }

@@ -1,9 +1,12 @@
 ghost use Rattle.mubdrax_c.specs.Texts.{ReportedFor, Wrote};
 
+use report::error::ReportError;
 use report::report::report_on;
 use std::alloc::Global;
 
 /// What was written of a report, and how long its text is.
+///
+/// C has no `Result`, so the numbers of this struct are its interface.
 #[repr(C)]
 #[derive(Clone, Copy)]
 pub struct TextAnswer {
@@ -43,8 +46,9 @@ pub extern "C" fn mubdrax_report(heap: Global, file: &[u8], room: &mut [u8]) -> 
     ensures { ReportedFor file.now room.old room.new result }
 {
     match report_on(heap, file) {
-        Ok(report) => write_text(report.text.as_bytes(), report.refused, room),
-        Err(_) => TextAnswer {
+        Ok(text) => write_text(text.as_bytes(), false, room),
+        Err(ReportError::Refused(line)) => write_text(line.as_bytes(), true, room),
+        Err(ReportError::OutOfMemory(_)) => TextAnswer {
             status: NO_MEMORY,
             length: 0,
         },

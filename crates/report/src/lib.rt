@@ -1,5 +1,6 @@
 //! What the program prints of a survey file: the statement, or why there is none.
 #![tactic(auto)]
 
+pub mod error;
 pub mod report;
 pub mod text;

@@ -4,91 +4,14 @@
 use anyhow::anyhow;
 use geometry::weighted::Weighted;
 use grading::soil::{Reading, Soil};
-use mesh::record::{TetRecord, big_record};
+use mesh::record::big_record;
 use survey::open::Open;
 use survey::promise::every_past_is_upheld;
 use survey::record::PointRecord;
 use survey::refusal::Refusal;
+use survey::site::{Place, Site};
 use survey::statement::Statement;
-
-/// A site that is brought to the survey.
-#[derive(Clone, Copy)]
-struct Site {
-    x: u16,
-    y: u16,
-    z: u16,
-    penalty: u32,
-    soil: Reading,
-}
-
-/// The second has a place that is taken, and the last would leave the one before it without a tetrahedron.
-const SITES: [Site; 7] = [
-    Site {
-        x: 300,
-        y: 300,
-        z: 300,
-        penalty: 0,
-        soil: Reading::Clay,
-    },
-    Site {
-        x: 300,
-        y: 300,
-        z: 300,
-        penalty: 5,
-        soil: Reading::Peat,
-    },
-    Site {
-        x: 310,
-        y: 300,
-        z: 300,
-        penalty: 0,
-        soil: Reading::Clay,
-    },
-    Site {
-        x: 300,
-        y: 310,
-        z: 300,
-        penalty: 10,
-        soil: Reading::Sand,
-    },
-    Site {
-        x: 300,
-        y: 300,
-        z: 310,
-        penalty: 20,
-        soil: Reading::Sand,
-    },
-    Site {
-        x: 100,
-        y: 100,
-        z: 100,
-        penalty: 50_000,
-        soil: Reading::Fill,
-    },
-    Site {
-        x: 101,
-        y: 100,
-        z: 100,
-        penalty: 0,
-        soil: Reading::Fill,
-    },
-];
-
-const BLANK: PointRecord = PointRecord {
-    x: 0,
-    y: 0,
-    z: 0,
-    penalty: 0,
-    mark: 0,
-};
-
-/// The tables of the survey.
-#[derive(Drop)]
-struct Tables {
-    points: [PointRecord; 16],
-    readings: [Reading; 16],
-    tets: [TetRecord; 64],
-}
+use survey::tables::Tables;
 
 /// What the survey answered: a number for each site or its refusal, the record that owns a place, and the statement.
 #[derive(Drop)]
@@ -98,26 +21,42 @@ struct Answers {
     statement: Statement,
 }
 
-/// Brings the sites to a new survey, locates a place in it and states it.
-fn survey_soil(t: &mut Tables) -> Result<Answers, Refusal> {
-    let mut survey = Open::create(Weighted, Soil, &mut t.points, &mut t.readings, &mut t.tets)?;
-    let mut sites = [Err(Refusal::NotWhole); 7];
-    for (k, site) in SITES.iter().enumerate() {
-        sites[k] = survey.add(
-            &mut t.points,
-            &mut t.readings,
-            &mut t.tets,
-            site.x,
-            site.y,
-            site.z,
-            site.penalty,
-            site.soil,
-        );
+/// A site at a place, with its penalty.
+fn site(x: u16, y: u16, z: u16, penalty: u32) -> Site {
+    Site {
+        place: Place { x, y, z },
+        penalty,
     }
+}
+
+/// The sites that are brought, each with its soil. The second has a place that is taken, and the last would leave the
+/// one before it without a tetrahedron.
+// A function and not a constant, since a constant cannot call `site`.
+fn soil_sites() -> [(Site, Reading); 7] {
+    [
+        (site(300, 300, 300, 0), Reading::Clay),
+        (site(300, 300, 300, 5), Reading::Peat),
+        (site(310, 300, 300, 0), Reading::Clay),
+        (site(300, 310, 300, 10), Reading::Sand),
+        (site(300, 300, 310, 20), Reading::Sand),
+        (site(100, 100, 100, 50_000), Reading::Fill),
+        (site(101, 100, 100, 0), Reading::Fill),
+    ]
+}
+
+/// Brings the sites to a new survey, locates a place in it and states it.
+fn survey_soil(tables: &mut Tables<'_, Reading>) -> Result<Answers, Refusal> {
+    let mut survey = Open::create(Weighted, Soil, tables)?;
+    let sites = soil_sites().map(|(site, soil)| survey.add(tables, site, soil));
     let survey = survey.seal();
-    let owner = survey.locate(&t.points, &t.readings, &t.tets, 302, 302, 302)?;
+    let place = Place {
+        x: 302,
+        y: 302,
+        z: 302,
+    };
+    let owner = survey.locate(&tables.shared(), place)?;
     let mut statement = Statement::new();
-    survey.state(&t.points, &t.readings, &t.tets, &mut statement)?;
+    survey.state(&tables.shared(), &mut statement)?;
     Ok(Answers {
         sites,
         owner,
@@ -142,13 +81,14 @@ fn print_answers(rt: &HostRuntime, answers: &Answers) -> anyhow::Result<()> {
 
 fn main(rt: HostRuntime) -> anyhow::Result<()> {
     every_past_is_upheld::<Weighted, Soil>();
+    let mut points = [PointRecord::default(); 16];
+    let mut readings = [Reading::Sand; 16];
+    let mut tets = [big_record(); 64];
     let mut tables = Tables {
-        points: [BLANK; 16],
-        readings: [Reading::Sand; 16],
-        tets: [big_record(); 64],
+        points: &mut points,
+        readings: &mut readings,
+        tets: &mut tets,
     };
-    match survey_soil(&mut tables) {
-        Ok(answers) => print_answers(&rt, &answers),
-        Err(_) => Err(anyhow!("the survey is refused")),
-    }
+    let answers = survey_soil(&mut tables).map_err(|_| anyhow!("the survey is refused"))?;
+    print_answers(&rt, &answers)
 }

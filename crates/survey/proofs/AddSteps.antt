@@ -1,5 +1,5 @@
 -- The ten questions of adding, joined from the six of the site and the four of the hole.
-use Rattle.std.proofs.Common.{◌≡◌, ℕ, ◌+◌, ◌-◌, ◌<◌, Bool, true, false, List, [], ◌∷◌, ◌++◌, map, length, take, drop, set, replicate, Ok, Err, Result, sym, refl, ap, ◌∙◌, subst, ⊎_elim, arith}
+use Rattle.std.proofs.Common.{◌≡◌, ℕ, ◌+◌, ◌-◌, ◌<◌, Bool, true, false, List, [], ◌∷◌, ◌++◌, length, drop, set, replicate, Ok, Err, Result, sym, refl, ap, ◌∙◌, subst, arith}
 use Rattle.std.proofs.lemmas.Bool.{ltb-true}
 use Rattle.mesh.specs.Tetrahedra.{Tet}
 use Rattle.mesh.specs.declared.record.TetRecord.{TetRecord}
@@ -8,19 +8,17 @@ use Rattle.survey.specs.declared.refusal.Refusal.TheVariants.{PointTable, TetTab
 use Rattle.geometry.specs.Lifts.{Lift}
 use Rattle.geometry.specs.Spots.{Spot}
 use Rattle.mesh.specs.Spaces.{conflicting}
-use Rattle.mesh.specs.Records.{neighbour, row}
 use Rattle.survey.specs.declared.counts.Counts.{Counts}
 use Rattle.survey.specs.declared.prepare.Prepared.{Prepared}
 use Rattle.survey.specs.declared.record.PointRecord.{PointRecord}
 use Rattle.survey.specs.Adds.{Accepted, Examined, Ready, conflict, questions, site_record}
 use Rattle.survey.specs.Plans.{table_after, zero_record}
 use Rattle.mesh.specs.Added.{records_after, shell_faces}
-use Rattle.survey.specs.Conflicts.{Named}
 use Rattle.survey.specs.Prepares.{Filled, NamesLost, PreparedBy, hole_questions}
-use Rattle.survey.specs.Tables.{spot_of, spots, used_tets}
+use Rattle.survey.specs.Tables.{Lent, spots, used_points, used_tets}
 use Rattle.survey.specs.Wholeness.{WholeTables}
 use Rattle.survey.proofs.WholeTables.{tables_tell}
-use Rattle.survey.proofs.WholeUses.{used_neighbour, used_tets_length}
+use Rattle.survey.proofs.WholeUses.{used_points_length, used_tets_length}
 use Rattle.survey.specs.Questions.{first_no, site_questions}
 use Rattle.survey.specs.Refusals.{number_of}
 
@@ -65,84 +63,95 @@ six_yes true true false d e f h = absurd (omega arith)
 six_yes true false c d e f h = absurd (omega arith)
 six_yes false b c d e f h = absurd (omega arith)
 
-module _ (L : Lift) (c : Counts) (ps : List PointRecord) (readings : ℕ) (ts : List TetRecord) (s : Spot) (a : Bool) where
-  pub site_refused : (e : Refusal) → number_of e ≡ 3 + first_no (site_questions c ps readings ts s a) → first_no (site_questions c ps readings ts s a) < 6
-      → (number_of e ≡ 3 + first_no (questions L c ps readings ts s a)) × (first_no (questions L c ps readings ts s a) < 10) × NamesLost (conflicting (spots c ps) L s) (used_tets c ts) c.points e
+module _ {R : Type 0} (L : Lift) (c : Counts) (t : Lent R) (s : Spot) (a : Bool) where
+  abbrev readings : ℕ
+  readings = length t.readings
+
+  abbrev used : List TetRecord
+  used = used_tets c t.tets
+
+  -- which tetrahedra the site conflicts with
+  abbrev drop_by : Tet → Bool
+  drop_by = conflicting (spots c t.points) L s
+
+  abbrev of_site : List Bool
+  of_site = site_questions c t.points readings t.tets s a
+
+  abbrev of_hole : List Bool
+  of_hole = hole_questions drop_by used c.points c.tet_records
+
+  abbrev of_all : List Bool
+  of_all = questions L c t.points readings t.tets s a
+
+  pub site_refused : (e : Refusal) → number_of e ≡ 3 + first_no of_site → first_no of_site < 6
+      → (number_of e ≡ 3 + first_no of_all) × (first_no of_all < 10) × NamesLost drop_by used c.points e
   site_refused e num low =
-      let front = first_no_front (site_questions c ps readings ts s a) (hole_questions (conflicting (spots c ps) L s) (used_tets c ts) c.points c.tet_records) low in
-      (num ∙ ap (λ n. 3 + n) (sym front), omega (arith, front, low), names_none (conflicting (spots c ps) L s) (used_tets c ts) c.points e (omega (arith, num, low)))
+      let front = first_no_front of_site of_hole low in
+      (num ∙ ap (λ n. 3 + n) (sym front), omega (arith, front, low), names_none drop_by used c.points e (omega (arith, num, low)))
 
-  module _ (sure : first_no (site_questions c ps readings ts s a) ≡ 6) where
-    pub joined : first_no (questions L c ps readings ts s a) ≡ 6 + first_no (hole_questions (conflicting (spots c ps) L s) (used_tets c ts) c.points c.tet_records)
-    joined = first_no_back (site_questions c ps readings ts s a) (hole_questions (conflicting (spots c ps) L s) (used_tets c ts) c.points c.tet_records) sure
+  module _ (sure : first_no of_site ≡ 6) where
+    joined : first_no of_all ≡ 6 + first_no of_hole
+    joined = first_no_back of_site of_hole sure
 
-    pub hole_refused : (e : Refusal) → number_of e ≡ 9 + first_no (hole_questions (conflicting (spots c ps) L s) (used_tets c ts) c.points c.tet_records)
-        → number_of e ≡ 3 + first_no (questions L c ps readings ts s a)
-    hole_refused e num = omega (arith, num, joined)
+    pub whole : WholeTables c t.points readings t.tets
+    whole = (tables_tell c t.points readings t.tets).0 (six_yes _ _ _ _ _ _ sure).0
 
-    pub whole : WholeTables c ps readings ts
-    whole = (tables_tell c ps readings ts).0 (six_yes _ _ _ _ _ _ sure).0
-
-    pub room_for_one : c.points < c.point_records
+    room_for_one : c.points < c.point_records
     room_for_one = ltb-true c.points c.point_records (six_yes _ _ _ _ _ _ sure).1
 
-    pub named_used : Named (used_tets c ts)
-    named_used k i l j other =
-        ⊎_elim (λ none. absurd (other none)) (λ low. subst (λ (n : ℕ). neighbour (row (used_tets c ts) k) i < n) (sym (used_tets_length c ps readings ts whole)) low)
-        (used_neighbour c ps readings ts whole k i (omega (arith, used_tets_length c ps readings ts whole)) j)
-
-    pub ready : (out : List TetRecord) (p : Prepared) → Filled (conflicting (spots c ps) L s) (used_tets c ts) c.points c.tet_records out p → Ready L c ps readings ts s a out p
-    ready out p f = record {
+    ready : (p : Prepared) → Filled drop_by used c.points c.tet_records p → Ready L c t.points readings t.tets s a p
+    ready p f = record {
       asked = joined ∙ ap (λ n. 6 + n) f.asked;
       point_place = omega (arith, room_for_one, whole.point_table);
       reading_place = omega (arith, room_for_one, whole.reading_table);
       room = room_for_one;
       table = whole.tet_table;
-      used = used_tets_length c ps readings ts whole;
+      used = used_tets_length c t.points readings t.tets whole;
       filled = f;
     }
 
-    -- what was prepared from the used records, as it was lent
-    pub examined : (out : List TetRecord) (r : Result Prepared Refusal) (n t m : ℕ) (p : Spot) → n ≡ c.points → t ≡ c.tets → m ≡ c.points → p ≡ s
-        → PreparedBy (conflicting (map spot_of (take n ps)) L p) (take t ts) m c.tet_records out r → Examined L c ps readings ts s a out r
-    examined out r n t m p n_is t_is m_is p_is h =
+    -- what was prepared over the used records, at a point with the spot of the site
+    pub examined : (r : Result Prepared Refusal) (p : Spot) → p ≡ s
+        → PreparedBy (conflicting (spots c t.points) L p) used (length (used_points c t.points)) c.tet_records r → Examined L c t s a r
+    examined r p p_is h =
         done r
-        (subst (λ (k : ℕ). PreparedBy (conflicting (spots c ps) L s) (used_tets c ts) k c.tet_records out r) m_is
-        (subst (λ (q : Spot). PreparedBy (conflicting (spots c ps) L q) (used_tets c ts) m c.tet_records out r) p_is
-        (subst (λ (k : ℕ). PreparedBy (conflicting (spots c ps) L p) (take k ts) m c.tet_records out r) t_is
-        (subst (λ (k : ℕ). PreparedBy (conflicting (map spot_of (take k ps)) L p) (take t ts) m c.tet_records out r) n_is h))))
+        (subst (λ (k : ℕ). PreparedBy drop_by used k c.tet_records r) (used_points_length c t.points readings t.tets whole)
+        (subst (λ (q : Spot). PreparedBy (conflicting (spots c t.points) L q) used (length (used_points c t.points)) c.tet_records r) p_is h))
       where
-        done : (r : Result Prepared Refusal) → PreparedBy (conflicting (spots c ps) L s) (used_tets c ts) c.points c.tet_records out r → Examined L c ps readings ts s a out r
-        done (Ok p) f = ready out p f
-        done (Err e) h = (hole_refused e h.0, omega (arith, joined, h.1), h.2)
+        done : (r : Result Prepared Refusal) → PreparedBy drop_by used c.points c.tet_records r → Examined L c t s a r
+        done (Ok p) f = ready p f
+        done (Err e) h = (omega (arith, h.0, joined), omega (arith, joined, h.1), h.2)
 
 -- the tables and counts that an add leaves when every answer was yes
-module _ {R : Type 0} (L : Lift) (admits : R → Bool) (c : Counts) (ps : List PointRecord) (rs : List R) (ts : List TetRecord) (s : Spot) (r : R) (out : List TetRecord) (p : Prepared)
-    (h : Ready L c ps (length rs) ts s (admits r) out p)
+module _ {R : Type 0} (L : Lift) (admits : R → Bool) (c : Counts) (t : Lent R) (s : Spot) (r : R) (p : Prepared)
+    (h : Ready L c t.points (length t.readings) t.tets s (admits r) p)
   where
     abbrev after : List TetRecord
-    after = records_after (conflict L admits c ps rs ts s r) (used_tets c ts) c.points
+    after = records_after (conflict L admits c t.points t.readings t.tets s r) (used_tets c t.tets) c.points
 
-    abbrev written : (a : List TetRecord) (e k : ℕ) → List TetRecord
-    written a e k = a ++ replicate (e - k) zero_record ++ drop e ts
+    abbrev faces : ℕ
+    faces = length (shell_faces (conflict L admits c t.points t.readings t.tets s r) (used_tets c t.tets))
 
-    table_written : written (take p.count out) p.end p.count ≡ table_after (conflict L admits c ps rs ts s r) ts c.tets c.points
+    -- the table with some records written over its front, and cleared to just before another
+    abbrev written : (rs : List TetRecord) (end : ℕ) → List TetRecord
+    written rs end = rs ++ replicate (end - length rs) zero_record ++ drop end t.tets
+
+    table_written : written p.records.now p.end ≡ table_after (conflict L admits c t.points t.readings t.tets s r) t.tets c.tets c.points
     table_written =
-        ap (λ (a : List TetRecord). written a p.end p.count) h.filled.records
-        ∙ ap (λ (e : ℕ). written after e p.count) (h.filled.end ∙ ap (λ (u : ℕ). u + length (shell_faces (conflict L admits c ps rs ts s r) (used_tets c ts))) h.used)
-        ∙ ap (λ (k : ℕ). written after (c.tets + length (shell_faces (conflict L admits c ps rs ts s r) (used_tets c ts))) k) h.filled.count
+        ap (λ (rs : List TetRecord). written rs p.end) h.filled.records
+        ∙ ap (written after) (h.filled.end ∙ ap (λ (u : ℕ). u + faces) h.used)
 
-    pub accepted : (c' : Counts) (ps' : List PointRecord) (rs' : List R) (ts' : List TetRecord) → ps' ≡ set ps c.points (site_record s) → rs' ≡ set rs c.points r
-        → ts' ≡ take p.count out ++ replicate (p.end - p.count) zero_record ++ drop p.end ts → c'.points ≡ c.points + 1 → c'.tets ≡ p.count → c'.point_records ≡ c.point_records
-        → c'.tet_records ≡ c.tet_records → Accepted L admits c ps rs ts s r c' ps' rs' ts' c.points
-    accepted c' ps' rs' ts' hp hr ht one count same_points same_tets = record {
+    pub accepted : (c' : Counts) (q : PointRecord) (ts' : List TetRecord) → q ≡ site_record s → ts' ≡ written p.records.now p.end → c'.points ≡ c.points + 1 → c'.tets ≡ length p.records.now
+        → c'.point_records ≡ c.point_records → c'.tet_records ≡ c.tet_records
+        → Accepted L admits c t.points t.readings t.tets s r c' (set t.points c.points q) (set t.readings c.points r) ts' c.points
+    accepted c' q ts' put wrote one count same_points same_tets = record {
       asked = h.asked;
       number = refl;
-      points = hp;
-      readings = hr;
-      tets = ht ∙ table_written;
+      points = ap (set t.points c.points) put;
+      readings = refl;
+      tets = wrote ∙ table_written;
       point_count = one;
-      tet_count = count ∙ h.filled.count;
+      tet_count = count ∙ ap (λ (rs : List TetRecord). length rs) h.filled.records;
       point_records = same_points;
       tet_records = same_tets;
     }

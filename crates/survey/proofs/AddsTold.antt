@@ -1,19 +1,19 @@
 -- On whole tables that hold a state in order, an add answers as the rules allow.
-use Rattle.std.proofs.Common.{◌≡◌, ℕ, zero, suc, ◌+◌, ◌<◌, ◌≤◌, Bool, true, false, not, ◌||◌, ltb, ◌⊎◌, List, [], ◌∷◌, ◌++◌, map, length, get_or, Decides, sym, refl, ap, ◌∙◌, subst, inl, inr, arith}
+use Rattle.std.proofs.Common.{◌≡◌, ℕ, zero, suc, ◌+◌, ◌<◌, ◌≤◌, Bool, true, false, ltb, List, [], ◌∷◌, ◌++◌, map, length, get_or, drop, Decides, sym, refl, ap, ◌∙◌, subst, arith}
 use Rattle.std.specs.List.{AllByRecursion}
-use Rattle.std.proofs.ByRecursion.{All-from_get_or, All-get_or, All-map}
+use Rattle.std.proofs.ByRecursion.{All-map}
 use Rattle.std.proofs.lemmas.List.{length-map}
 use Rattle.std.proofs.lemmas.Bool.{both_ways, le-leb, leb-true}
-use Rattle.std.proofs.lemmas.Bool.Decides.{nat_tests, Decides-at, Decides-below_and, Decides-like, Decides-ltb, Decides-not, Decides-or, not_from_Decides}
+use Rattle.std.proofs.lemmas.Bool.Decides.{nat_tests, Decides-at, Decides-below_and, Decides-like, Decides-ltb, not_from_Decides}
 use Rattle.geometry.specs.Lifts.{Lift}
 use Rattle.geometry.specs.Limits.{Light}
-use Rattle.geometry.specs.Spots.{Spot, bare, corners}
+use Rattle.geometry.specs.Spots.{Spot, corners}
 use Rattle.algebra.specs.Lists.{some}
 use Rattle.mesh.specs.Added.{shell_faces, facet_of}
 use Rattle.mesh.specs.Adding.{Adds, Closed, Conflicting, Fitting, SamePlace, Staying, Untaken, added, conflicts, no_conflict, off_grid, place_taken, point_vanishes, points_full, shell_at, shell_open, tetrahedra_full, unadmitted, unpermitted, with_site}
 use Rattle.mesh.specs.Orientations.{Balanced}
 use Rattle.mesh.specs.Records.{Whole, every, mesh_of}
-use Rattle.mesh.specs.Spaces.{conflicting, numbered}
+use Rattle.mesh.specs.Spaces.{conflicting}
 use Rattle.mesh.specs.Surveys.{Grading, OnGrid, Site, State, accepted, count}
 use Rattle.mesh.specs.Tetrahedra.{Tet, closed, stays}
 use Rattle.mesh.specs.declared.record.TetRecord.{TetRecord}
@@ -29,11 +29,12 @@ use Rattle.survey.specs.Prepares.{NamesLost, hole_questions, stays_in}
 use Rattle.survey.specs.Questions.{first_no, site_questions}
 use Rattle.survey.specs.Refusals.{number_of}
 use Rattle.survey.specs.Searches.{same_place, untaken}
-use Rattle.survey.specs.Tables.{Lent, blank_point, spot_of, spots, used_points, used_tets}
+use Rattle.survey.proofs.Searching.{none_tell}
+use Rattle.std.proofs.lemmas.List.{drop-map}
+use Rattle.survey.specs.Tables.{Lent, spot_of, spots, used_points, used_tets}
 use Rattle.survey.specs.Upheld.{Holds, sizes}
 use Rattle.survey.specs.Wholeness.{WholeTables}
 use Rattle.survey.proofs.HoleTold.{dropped_told, edges_told, stays_told}
-use Rattle.survey.proofs.TableReads.{numbered_is}
 use Rattle.survey.proofs.WholeTables.{tables_tell}
 use Rattle.survey.proofs.WholeUses.{used_points_length}
 
@@ -74,39 +75,17 @@ module _ {R : Type 0} (p : Spot) (us : List PointRecord) (sites : List (Site R))
   abbrev Elsewhere : Spot → Type 0
   Elsewhere q = ¬ SamePlace p q
 
-  -- point record k is a corner's, or has another place
-  Apart : (k : ℕ) → Type 0
-  Apart k = (k < 4) ⊎ Elsewhere (spot_of (get_or us k blank_point))
+  same_places : map spot_of (drop 4 us) ≡ places
+  same_places = sym (drop-map spot_of 4 us) ∙ ap (drop 4) e
 
-  spot_is : (j : ℕ) → spot_of (get_or us (suc (suc (suc (suc j)))) blank_point) ≡ get_or places j (bare 0 0 0)
-  spot_is j = sym (numbered_is us (suc (suc (suc (suc j))))) ∙ ap (λ (ss : List Spot). numbered ss (suc (suc (suc (suc j))))) e
+  there : AllByRecursion (λ r. Elsewhere (spot_of r)) (drop 4 us) → AllByRecursion (λ a. Elsewhere a.place) sites
+  there h = all_unmap Elsewhere (λ a. a.place) sites (subst (AllByRecursion Elsewhere) same_places (All-map Elsewhere spot_of (drop 4 us) h))
 
-  longer : length us ≡ suc (suc (suc (suc (length places))))
-  longer = sym (length-map us spot_of) ∙ ap length e
-
-  to_sites : ((k : ℕ) → k < length us → Apart k) → AllByRecursion Elsewhere places
-  unfolding Apart
-  to_sites h = All-from_get_or Elsewhere places (bare 0 0 0) (λ j l. elim (h (suc (suc (suc (suc j)))) (omega (arith, longer))) [
-    | inl low ↦ absurd (omega arith)
-    | inr other ↦ subst Elsewhere (spot_is j) other
-  ])
-
-  from_sites : AllByRecursion Elsewhere places → (k : ℕ) → k < length us → Apart k
-  unfolding Apart
-  from_sites h zero l = inl (omega arith)
-  from_sites h (suc zero) l = inl (omega arith)
-  from_sites h (suc (suc zero)) l = inl (omega arith)
-  from_sites h (suc (suc (suc zero))) l = inl (omega arith)
-  from_sites h (suc (suc (suc (suc j)))) l = inr (subst Elsewhere (sym (spot_is j)) (All-get_or Elsewhere places j (bare 0 0 0) (omega (arith, longer)) h))
+  back : AllByRecursion (λ a. Elsewhere a.place) sites → AllByRecursion (λ r. Elsewhere (spot_of r)) (drop 4 us)
+  back h = all_unmap Elsewhere spot_of (drop 4 us) (subst (AllByRecursion Elsewhere) (sym same_places) (All-map Elsewhere (λ a. a.place) sites h))
 
   untaken_tells : Decides (untaken us p.x p.y p.z) (AllByRecursion (λ a. Elsewhere a.place) sites)
-  unfolding Apart
-  untaken_tells =
-      let test : ℕ → Bool = λ k. ltb k 4 || not (same_place p.x p.y p.z (get_or us k blank_point)) in
-      Decides-like (every test (length us)) (λ h. all_unmap Elsewhere (λ a. a.place) sites (to_sites h)) (λ h. from_sites (All-map Elsewhere (λ a. a.place) sites h))
-      (Decides-below_and test Apart (every test)
-      (λ k. Decides-or (ltb k 4) (not (same_place p.x p.y p.z (get_or us k blank_point))) (Decides-ltb k 4) (Decides-not (same_place p.x p.y p.z (get_or us k blank_point)) (place_tells p (get_or us k blank_point))))
-      refl (λ _. refl) (length us))
+  untaken_tells = Decides-like (untaken us p.x p.y p.z) there back (none_tell (same_place p.x p.y p.z) (λ r. SamePlace p (spot_of r)) (place_tells p) (drop 4 us))
 
 -- ---- the questions of an add
 

@@ -108,7 +108,7 @@ module _ {R : Type 0} (L : Lift) (G : Grading R) where
                 (past_sound L G (sizes c) ((add p r, accepted n) ∷ past) next allowed);
           }
 
-      pub added_stands : (a : Result ℕ Refusal) → AddsTo L G.admits c t.points t.readings t.tets p r c' t'.points t'.readings t'.tets a → Stands ((add p r, add_told a) ∷ past) true c' t'
+      pub added_stands : (a : Result ℕ Refusal) → AddsTo L G.admits c t p r c' t' a → Stands ((add p r, add_told a) ∷ past) true c' t'
       added_stands (Ok n) f = accepted_stands n f
       added_stands (Err e) f = refused_stands e f
 
@@ -125,10 +125,10 @@ module _ {R : Type 0} (L : Lift) (G : Grading R) where
     -- ---- locating and stating
 
     module _ (h : Stands past false c t) where
-      pub located_stands : (x y z : ℕ) (a : Result ℕ Refusal) → Located c t.points (length t.readings) t.tets x y z a → Stands ((locate x y z, located_answer a) ∷ past) false c t
+      pub located_stands : (x y z : ℕ) (a : Result ℕ Refusal) → Located c t x y z a → Stands ((locate x y z, located_answer a) ∷ past) false c t
       located_stands x y z a g = record {
         state = h.state;
-        allowed = (h.state, h.allowed, step_locates h.held.still_open (located_told h.state c t.points (length t.readings) t.tets x y z h.held.places h.held.mesh h.whole g));
+        allowed = (h.state, h.allowed, step_locates h.held.still_open (located_told h.state c t x y z h.held.places h.held.mesh h.whole g));
         held = h.held;
         whole = h.whole;
       }
@@ -163,7 +163,7 @@ module _ {R : Type 0} (L : Lift) (G : Grading R) where
           ap (λ (f : Statement). stated (map as_told f.lines) f.margin) here
           ∙ (λ i. stated (lines_told G h.state t.readings agree under i) (margin_told G h.state t.readings agree under i))
 
-      pub stated_stands : (f f' : Statement) (a : Result (Unit {0}) Refusal) → Stated G c t.points t.readings t.tets f f' a → Stands ((state, state_told f' a) ∷ past) false c t
+      pub stated_stands : (f f' : Statement) (a : Result (Unit {0}) Refusal) → Stated G c t f f' a → Stands ((state, state_told f' a) ∷ past) false c t
       stated_stands f f' (Err e) g = absurd (g.1 h.whole)
       stated_stands f f' (Ok u) g = record {
         state = h.state;
@@ -202,7 +202,7 @@ module _ {M G R : Type 0} (lifts : M → Lift) (admitted : G → R → Bool) (cl
     state = created;
     allowed = refl;
     held = created_held m g before after o h;
-    whole = created_whole m g before.points after.points before.readings after.readings before.tets after.tets o h;
+    whole = created_whole m g before after o h;
   }
   ran_stands past s t (adds {past = past'} o o' before after p r a ran h same_measure same_grading) =
       let Before-stands = ran_stands past' (opened o) before ran in

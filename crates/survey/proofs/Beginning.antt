@@ -77,16 +77,16 @@ begun_whole c ps readings ts b f = record {
     vs = first_tets c.tets ts b.tets f.one
 
 -- what creating leaves is whole for the survey that it makes
-pub created_whole : {M G R : Type 0} (m : M) (g : G) (ps ps' : List PointRecord) (rs rs' : List R) (ts ts' : List TetRecord) (o : Open M G)
-    → Created m g ps ps' rs rs' ts ts' (Ok o) → WholeTables o.counts ps' (length rs') ts'
-created_whole {M} {G} {R} m g ps ps' rs rs' ts ts' o h =
-    subst (λ (us : List PointRecord). WholeTables o.counts us (length rs') ts') (sym h.4)
-    (subst (λ (xs : List R). WholeTables o.counts (with_corners ps) (length xs) ts') (sym h.5)
-    (subst (λ (vs : List TetRecord). WholeTables o.counts (with_corners ps) (length rs) vs) (sym h.6)
-    (begun_whole o.counts ps (length rs) ts h.1 (fits_all (length ps) (length rs) (length ts) h.0))))
+pub created_whole : {M G R : Type 0} (m : M) (g : G) (before after : Lent R) (o : Open M G)
+    → Created m g before after (Ok o) → WholeTables o.counts after.points (length after.readings) after.tets
+created_whole {M} {G} {R} m g before after o h =
+    subst (λ (us : List PointRecord). WholeTables o.counts us (length after.readings) after.tets) (sym h.4)
+    (subst (λ (xs : List R). WholeTables o.counts (with_corners before.points) (length xs) after.tets) (sym h.5)
+    (subst (λ (vs : List TetRecord). WholeTables o.counts (with_corners before.points) (length before.readings) vs) (sym h.6)
+    (begun_whole o.counts before.points (length before.readings) before.tets h.1 (fits_all (length before.points) (length before.readings) (length before.tets) h.0))))
 
 pub created_held : {M G R : Type 0} (m : M) (g : G) (before after : Lent R) (o : Open M G)
-    → Created m g before.points after.points before.readings after.readings before.tets after.tets (Ok o) → Holds o.counts after true created
+    → Created m g before after (Ok o) → Holds o.counts after true created
 created_held {M} {G} {R} m g before after o h =
     let c = o.counts in
     let begun = h.1 in

@@ -1,13 +1,13 @@
 -- Numbers that pass a test, counted and gathered by a loop.
 use Rattle.std.proofs.Common.{◌≡◌, ℕ, zero, suc, ◌+◌, ◌*◌, ◌/◌, ◌<◌, ◌≤◌, Bool, true, false, cond, List, map, length, get_or, take, set, sym, ap, ◌∙◌, inl, inr, arith}
-use Rattle.std.proofs.ByRecursion.{All-push}
+use Rattle.std.proofs.lemmas.List.Elements.{All-push}
 use Rattle.std.proofs.lemmas.List.{append-nil, take_more_set, map_push, get_or-set_same, get_or-set_other}
 use Rattle.std.proofs.lemmas.Bool.{cases_eq, and_left}
 use Rattle.mesh.proofs.Ranks.{rank_more, passing_more}
 use Rattle.mesh.specs.Added.{passing, rank}
 use Rattle.mesh.specs.declared.record.TetRecord.{TetRecord}
 use Rattle.survey.specs.Cavity.{bare, gone, noted, Noted, Placed}
-use Rattle.survey.specs.declared.cavity.shell.ShellFace.{ShellFace}
+use Rattle.survey.specs.declared.cavity.shell_face.ShellFace.{ShellFace}
 
 -- ---- ranks
 
@@ -60,8 +60,8 @@ pub gathered_no : {X : Type 0} (g : X → ℕ) (p : ℕ → Bool) (xs : List X) 
 gathered_no g p xs n q e is same after h = rw (is, same, after) (h.0 ∙ sym (rank_no p q e), h.1 ∙ sym (passing_more p q ∙ rw e (append-nil (passing p q))))
 
 pub placed_more : (rs : List TetRecord) (ss : List ShellFace) (f : ShellFace) (n : ℕ) {ts : List ShellFace} {m : ℕ}
-    → n < length ss → ts ≡ set ss n f → m ≡ n + 1 → (f.record < length rs) × (f.slot < 4) → Placed rs (take n ss) → Placed rs (take m ts)
-placed_more rs ss f n l is next here h = rw (is, next, take_more_set ss n f l) (All-push (λ f. (f.record < length rs) × (f.slot < 4)) (take n ss) f h here)
+    → n < length ss → ts ≡ set ss n f → m ≡ n + 1 → f.record < length rs → Placed rs (take n ss) → Placed rs (take m ts)
+placed_more rs ss f n l is next here h = rw (is, next, take_more_set ss n f l) (All-push (λ f. f.record < length rs) (take n ss) f h here)
 
 -- ---- numbering
 

@@ -4,8 +4,7 @@ pub mod Figures
 pub mod Locating
 pub mod LocatesTold
 pub mod Owning
-pub mod TableReads
-pub mod Tested
+pub mod Ranges
 pub mod ToldFigures
 pub mod WholeTables
 pub mod WholeUses
@@ -15,7 +14,6 @@ pub mod Renumbering
 pub mod Sharing
 pub mod Filling
 pub mod Flags
-pub mod ConflictReads
 pub mod Searching
 pub mod Preparing
 pub mod AddSteps

@@ -3,7 +3,6 @@ use Rattle.std.proofs.Common.{◌≡◌, ℕ, ◌<◌, List, length, get_or, Res
 use Rattle.std.proofs.ByRecursion.{All-from_get_or}
 use Rattle.std.proofs.lemmas.List.{length-map}
 use Rattle.geometry.specs.Spots.{bare}
-use Rattle.mesh.specs.declared.record.TetRecord.{TetRecord}
 use Rattle.mesh.specs.Owners.{Owns}
 use Rattle.mesh.specs.Past.{Locates, Owner, nowhere, no_owner}
 use Rattle.mesh.specs.Past.{lowest_owner as lowest}
@@ -12,34 +11,33 @@ use Rattle.mesh.specs.Surveys.{State, points}
 use Rattle.mesh.specs.Tetrahedra.{Tet, big}
 use Rattle.mesh.proofs.Sharing.{tet_row}
 use Rattle.survey.specs.declared.counts.Counts.{Counts}
-use Rattle.survey.specs.declared.record.PointRecord.{PointRecord}
 use Rattle.survey.specs.declared.refusal.Refusal.{Refusal}
 use Rattle.survey.specs.Locates.{Located, OwnsAt, located_answer, not_whole, off_grid, unowned, lowest_owner}
-use Rattle.survey.specs.Tables.{spots, used_tets}
+use Rattle.survey.specs.Tables.{Lent, spots, used_tets}
 use Rattle.survey.specs.Wholeness.{WholeTables}
 use Rattle.survey.proofs.WholeUses.{used_tets_length}
 
-module _ {R : Type 0} (s : State R) (c : Counts) (ps : List PointRecord) (readings : ℕ) (ts : List TetRecord) (x y z : ℕ)
-    (same_points : spots c ps ≡ points s) (same_mesh : mesh_of (used_tets c ts) ≡ s.mesh) (w : WholeTables c ps readings ts)
+module _ {R : Type 0} (s : State R) (c : Counts) (t : Lent R) (x y z : ℕ)
+    (same_points : spots c t.points ≡ points s) (same_mesh : mesh_of (used_tets c t.tets) ≡ s.mesh) (w : WholeTables c t.points (length t.readings) t.tets)
   where
     mesh_length : length s.mesh ≡ c.tets
-    mesh_length = ap length (sym same_mesh) ∙ length-map (used_tets c ts) tet_of ∙ used_tets_length c ps readings ts w
+    mesh_length = ap length (sym same_mesh) ∙ length-map (used_tets c t.tets) tet_of ∙ used_tets_length c t.points (length t.readings) t.tets w
 
     -- used record k has tetrahedron k of the mesh
-    tet_told : (k : ℕ) → k < c.tets → tet_of (row (used_tets c ts) k) ≡ get_or s.mesh k big
-    tet_told k l = sym (tet_row (used_tets c ts) k (omega (arith, used_tets_length c ps readings ts w))) ∙ ap (λ (m : List Tet). get_or m k big) same_mesh
+    tet_told : (k : ℕ) → k < c.tets → tet_of (row (used_tets c t.tets) k) ≡ get_or s.mesh k big
+    tet_told k l = sym (tet_row (used_tets c t.tets) k (omega (arith, used_tets_length c t.points (length t.readings) t.tets w))) ∙ ap (λ (m : List Tet). get_or m k big) same_mesh
 
     -- and owns the place where that one does
-    owner_told : (k : ℕ) → k < c.tets → OwnsAt c ps ts x y z k ≡ Owner s (bare x y z) (get_or s.mesh k big)
+    owner_told : (k : ℕ) → k < c.tets → OwnsAt c t.points t.tets x y z k ≡ Owner s (bare x y z) (get_or s.mesh k big)
     owner_told k l = λ i. Owns (same_points i) (bare x y z) (tet_told k l i)
 
-    owner_there : (k : ℕ) → k < c.tets → OwnsAt c ps ts x y z k → Owner s (bare x y z) (get_or s.mesh k big)
+    owner_there : (k : ℕ) → k < c.tets → OwnsAt c t.points t.tets x y z k → Owner s (bare x y z) (get_or s.mesh k big)
     owner_there k l h = subst (λ (P : Type 0). P) (owner_told k l) h
 
-    owner_back : (k : ℕ) → k < c.tets → Owner s (bare x y z) (get_or s.mesh k big) → OwnsAt c ps ts x y z k
+    owner_back : (k : ℕ) → k < c.tets → Owner s (bare x y z) (get_or s.mesh k big) → OwnsAt c t.points t.tets x y z k
     owner_back k l h = subst (λ (P : Type 0). P) (sym (owner_told k l)) h
 
-    pub located_told : {r : Result ℕ Refusal} → Located c ps readings ts x y z r → Locates s (bare x y z) (located_answer r)
+    pub located_told : {r : Result ℕ Refusal} → Located c t x y z r → Locates s (bare x y z) (located_answer r)
     located_told (not_whole broken) = absurd (broken w)
     located_told (off_grid _ off) = nowhere off
     located_told (unowned _ on none) =

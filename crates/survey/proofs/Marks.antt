@@ -1,42 +1,20 @@
 -- Marks set for points, and the points that belong to kept records and to faces.
-use Rattle.std.proofs.Common.{◌≡◌, ℕ, zero, suc, ◌+◌, ◌*◌, ◌/◌, ◌%◌, ◌<◌, Bool, true, false, ◌||◌, eqb, List, [], ◌∷◌, ◌++◌, map, length, get_or, take, set, replicate, Some, None, Option, sym, refl, ap, ◌∙◌, inl, inr, arith}
-use Rattle.std.proofs.lemmas.List.{append-nil, get_or-set_same, get_or-set_other, length-set, map_more}
-use Rattle.std.proofs.lemmas.Bool.{cases_eq, eq-eqb, ne_eqb, or_left}
+use Rattle.std.proofs.Common.{◌≡◌, ℕ, zero, suc, ◌+◌, ◌/◌, ◌%◌, ◌<◌, Bool, true, false, ◌||◌, eqb, List, [], ◌∷◌, ◌++◌, map, length, get_or, take, replicate, Some, None, Option, sym, refl, ap, ◌∙◌, arith}
+use Rattle.std.proofs.lemmas.List.{append-nil, map_more}
 use Rattle.algebra.proofs.Lists.{some-append}
+use Rattle.std.specs.List.{list_any}
 use Rattle.algebra.specs.Lists.{some}
 use Rattle.mesh.proofs.Ranks.{passing_more}
 use Rattle.mesh.specs.Added.{face_of, passing}
 use Rattle.mesh.specs.Records.{row, point, tet_of, face_at}
 use Rattle.mesh.specs.Tetrahedra.{Triple, has, on}
 use Rattle.mesh.specs.declared.record.TetRecord.{TetRecord}
-use Rattle.survey.specs.Cavity.{left, face_number, blank_face}
-use Rattle.survey.specs.Stay.{kept_has, faces_have, Failing}
-use Rattle.survey.specs.declared.cavity.shell.ShellFace.{ShellFace}
+use Rattle.survey.specs.Cavity.{left, face_number}
+use Rattle.survey.specs.Stay.{kept_has, faces_have, Failing, PointsBelow}
+use Rattle.survey.proofs.Sharing.{record_of}
+use Rattle.survey.specs.declared.cavity.shell_face.ShellFace.{ShellFace}
 
 -- ---- marks
-
-pub marked : (ms : List Bool) (p q : ℕ) → p < length ms → get_or (set ms p true) q false ≡ (eqb q p || get_or ms q false)
-marked ms p q l = elim (cases_eq q p) [
-  | inl e ↦ rw (e, get_or-set_same) (sym (or_left (eqb p p) (get_or ms p false) (eq-eqb p p refl)))
-  | inr n ↦ get_or-set_other ms p q true false n ∙ ap (λ (b : Bool). b || get_or ms q false) (sym (ne_eqb q p n))
-]
-
-in_order : (a b c d e : Bool) → (d || (c || (b || (a || e)))) ≡ (a || b || c || d || e)
-in_order a b c d e = grind arith
-
-pub marked_four : (ms : List Bool) (a b c d q : ℕ) → a < length ms → b < length ms → c < length ms → d < length ms
-    → get_or (set (set (set (set ms a true) b true) c true) d true) q false ≡ (eqb q a || eqb q b || eqb q c || eqb q d || get_or ms q false)
-marked_four ms a b c d q la lb lc ld =
-    let m1 = set ms a true in
-    let m2 = set m1 b true in
-    let m3 = set m2 c true in
-    let n1 = length-set ms a true in
-    let n2 = length-set m1 b true in
-    let n3 = length-set m2 c true in
-    marked m3 d q (omega (arith, n1, n2, n3))
-    ∙ ap (λ (x : Bool). eqb q d || x) (marked m2 c q (omega (arith, n1, n2))
-    ∙ ap (λ (x : Bool). eqb q c || x) (marked m1 b q (omega (arith, n1)) ∙ ap (λ (x : Bool). eqb q b || x) (marked ms a q la)))
-    ∙ in_order (eqb q a) (eqb q b) (eqb q c) (eqb q d) (get_or ms q false)
 
 pub unmarked : (n q : ℕ) → get_or (replicate n false) q false ≡ false
 unmarked zero q = refl
@@ -64,6 +42,30 @@ pub kept_has_no : (rs : List TetRecord) (fs : List Bool) (k q : ℕ) → left fs
 unfolding kept_has
 kept_has_no rs fs k q e = ap (some (λ k. has q (tet_of (row rs k)))) (passing_more (left fs) k ∙ rw e (append-nil (passing (left fs) k)))
 
+-- the marks once a kept record's points are set, and once a dropped one is passed over
+module _ (rs : List TetRecord) (fs : List Bool) (k q : ℕ) (old : Bool) where
+  pub kept_marked : (is : Bool) {m n : Bool} → left fs k ≡ true → is ≡ has q (tet_of (row rs k)) → n ≡ (is || m) → m ≡ (kept_has rs fs k q || old) → n ≡ (kept_has rs fs (k + 1) q || old)
+  kept_marked is e here n_is m_is =
+      n_is ∙ rw m_is (or_assoc is (kept_has rs fs k q) old ∙ ap (λ (b : Bool). (b || kept_has rs fs k q) || old) here ∙ ap (λ (b : Bool). b || old) (sym (kept_has_yes rs fs k q e)))
+
+  pub kept_unmarked : {n : Bool} → left fs k ≡ false → n ≡ (kept_has rs fs k q || old) → n ≡ (kept_has rs fs (k + 1) q || old)
+  kept_unmarked e n_is = n_is ∙ ap (λ (b : Bool). b || old) (sym (kept_has_no rs fs k q e))
+
+-- the points of a record, one by one
+pub has_points : (q : ℕ) (r : TetRecord) → length r.points ≡ 4 → list_any (λ p. eqb q p) r.points ≡ has q (tet_of r)
+has_points q r long = go r.points long
+  where
+    dropped : (a b c d : Bool) → (a || (b || (c || (d || false)))) ≡ (a || b || c || d)
+    dropped a b c d = grind arith
+
+    go : (ps : List ℕ) → length ps ≡ 4 → list_any (λ p. eqb q p) ps ≡ (eqb q (get_or ps 0 0) || eqb q (get_or ps 1 0) || eqb q (get_or ps 2 0) || eqb q (get_or ps 3 0))
+    go [] l = absurd (omega arith)
+    go (a ∷ []) l = absurd (omega arith)
+    go (a ∷ b ∷ []) l = absurd (omega arith)
+    go (a ∷ b ∷ c ∷ []) l = absurd (omega arith)
+    go (a ∷ b ∷ c ∷ d ∷ []) l = dropped (eqb q a) (eqb q b) (eqb q c) (eqb q d)
+    go (a ∷ b ∷ c ∷ d ∷ e ∷ ps) l = absurd (omega arith)
+
 pub kept_has_none : (rs : List TetRecord) (fs : List Bool) (q : ℕ) → kept_has rs fs 0 q ≡ false
 unfolding kept_has
 kept_has_none rs fs q = refl
@@ -72,16 +74,12 @@ pub faces_have_none : (rs : List TetRecord) (q : ℕ) → faces_have rs [] q ≡
 unfolding faces_have
 faces_have_none rs q = refl
 
-pub faces_have_more : (rs : List TetRecord) (ss : List ShellFace) (i q : ℕ) (t : Triple) → i < length ss → (get_or ss i blank_face).slot < 4 → t ≡ face_at (row rs (get_or ss i blank_face).record) (get_or ss i blank_face).slot
-    → faces_have rs (map face_number (take (i + 1) ss)) q ≡ (on q t || faces_have rs (map face_number (take i ss)) q)
+pub faces_have_more : (rs : List TetRecord) (ss : List ShellFace) (i q : ℕ) (d : ShellFace) → i < length ss
+    → faces_have rs (map face_number (take (i + 1) ss)) q ≡ (on q (face_of rs (face_number (get_or ss i d))) || faces_have rs (map face_number (take i ss)) q)
 unfolding faces_have
-faces_have_more rs ss i q t l m e =
-    let f = get_or ss i blank_face in
-    let d : (4 * (get_or ss i blank_face).record + (get_or ss i blank_face).slot) / 4 ≡ (get_or ss i blank_face).record = omega arith in
-    let s : (4 * (get_or ss i blank_face).record + (get_or ss i blank_face).slot) % 4 ≡ (get_or ss i blank_face).slot = omega arith in
-    ap (some (λ p. on q (face_of rs p))) (map_more face_number ss i blank_face l)
-    ∙ one_more (λ p. on q (face_of rs p)) (map face_number (take i ss)) (face_number f)
-    ∙ rw (e, d, s)
+faces_have_more rs ss i q d l =
+    ap (some (λ p. on q (face_of rs p))) (map_more face_number ss i d l)
+    ∙ one_more (λ p. on q (face_of rs p)) (map face_number (take i ss)) (face_number (get_or ss i d))
 
 -- the points of a face are below what those of its record are
 pub face_below : (n : ℕ) (tet : TetRecord) (i : ℕ) → ((h : ℕ) → h < 4 → point tet h < n) → i < 4 → ((face_at tet i).x < n) × ((face_at tet i).y < n) × ((face_at tet i).z < n)
@@ -90,6 +88,25 @@ face_below n tet (suc zero) h l = (h 0 (omega arith), h 3 (omega arith), h 2 (om
 face_below n tet (suc (suc zero)) h l = (h 0 (omega arith), h 1 (omega arith), h 3 (omega arith))
 face_below n tet (suc (suc (suc zero))) h l = (h 0 (omega arith), h 2 (omega arith), h 1 (omega arith))
 face_below n tet (suc (suc (suc (suc i)))) h l = absurd (omega arith)
+
+pub shell_face_below : (n : ℕ) (rs : List TetRecord) (f : ShellFace) → PointsBelow n rs → f.record < length rs
+    → ((face_of rs (face_number f)).x < n) × ((face_of rs (face_number f)).y < n) × ((face_of rs (face_number f)).z < n)
+shell_face_below n rs f below l =
+    let q = face_number f in
+    let at : q / 4 < length rs = omega (arith, record_of f) in
+    face_below n (row rs (q / 4)) (q % 4) (λ h m. below (q / 4) h at m) (omega arith)
+
+pub listed_below : (n : ℕ) (t : Triple) → (t.x < n) × (t.y < n) × (t.z < n) → (i : ℕ) → i < 3 → get_or (t.x ∷ t.y ∷ t.z ∷ []) i 0 < n
+listed_below n t h zero l = h.0
+listed_below n t h (suc zero) l = h.1
+listed_below n t h (suc (suc zero)) l = h.2
+listed_below n t h (suc (suc (suc i))) l = absurd (omega arith)
+
+pub on_points : (q : ℕ) (t : Triple) → list_any (λ p. eqb q p) (t.x ∷ t.y ∷ t.z ∷ []) ≡ on q t
+on_points q t = dropped (eqb q t.x) (eqb q t.y) (eqb q t.z)
+  where
+    dropped : (a b c : Bool) → (a || (b || (c || false))) ≡ (a || b || c)
+    dropped a b c = grind arith
 
 pub kept_or_face : (a b m : Bool) → m ≡ false → (a || (b || m)) ≡ (b || a)
 kept_or_face a b m e = rw e (grind arith)

@@ -1,5 +1,5 @@
 -- What was asked of the hole by the flags is what the rules ask, and the records that were prepared are those after the add.
-use Rattle.std.proofs.Common.{◌≡◌, ℕ, zero, suc, ◌+◌, ◌*◌, ◌<◌, ◌≤◌, Bool, true, false, ◌||◌, leb, List, [], ◌∷◌, length, take, sym, refl, ap, ◌∙◌, subst, arith}
+use Rattle.std.proofs.Common.{◌≡◌, ℕ, zero, suc, ◌+◌, ◌*◌, ◌<◌, ◌≤◌, Bool, true, false, ◌||◌, leb, List, [], ◌∷◌, length, sym, refl, ap, ◌∙◌, subst, arith}
 use Rattle.std.proofs.lemmas.Bool.{leb-true}
 use Rattle.algebra.specs.Lists.{some}
 use Rattle.mesh.specs.Added.{drops, exposed, rank, records_after, shell_faces}
@@ -7,20 +7,51 @@ use Rattle.mesh.specs.Records.{every, row, tet_of}
 use Rattle.mesh.specs.Tetrahedra.{Tet, has}
 use Rattle.mesh.specs.declared.record.TetRecord.{TetRecord}
 use Rattle.mesh.proofs.Ranks.{length-passing}
-use Rattle.mesh.proofs.RecordLinks.{length-records_after}
+use Rattle.survey.specs.declared.cavity.plan.Plan.{Plan}
 use Rattle.survey.specs.declared.prepare.Prepared.{Prepared}
 use Rattle.survey.specs.declared.refusal.Refusal.{Refusal}
 use Rattle.survey.specs.declared.refusal.Refusal.TheVariants.{PointTable, TetTable, NotWhole, OffGrid, Penalty, Reading, PointsFull, PlaceTaken, NoConflict, TetsFull, ShellOpen, Vanishes, Unowned}
 use Rattle.survey.specs.Questions.{first_no}
-use Rattle.survey.specs.Cavity.{Flagged, Ready, bare, gone, left}
-use Rattle.survey.specs.Conflicts.{some_below}
+use Rattle.survey.specs.Cavity.{Flagged, Ready, bare, bare_faces, gone, left}
+use Rattle.survey.specs.Conflicts.{some_below, some_flag}
 use Rattle.survey.specs.Edges.{edges_twice}
-use Rattle.survey.specs.Holes.{Names, faces, hole_answers}
+use Rattle.survey.specs.Plans.{flags, records}
 use Rattle.survey.specs.Prepares.{Filled, NamesLost, hole_questions, stays_in}
 use Rattle.survey.specs.Refusals.{number_of}
 use Rattle.survey.specs.Stay.{faces_have, kept_has, remains}
 use Rattle.survey.proofs.Holes.{rank_le}
-use Rattle.survey.proofs.Renumbering.{kept_same, rank_exposed, rank_kept, shell_same}
+use Rattle.survey.proofs.Renumbering.{kept_same, rank_exposed, shell_length, shell_same}
+
+-- ---- the same questions, told from the flags of the dropped records
+
+module _ (us : List TetRecord) (fs : List Bool) where
+  abbrev pub faces : List ℕ
+  faces = bare_faces us fs
+
+  -- is a record dropped; do the used records and the shell faces fit; are the edges in two shell faces each; do all n points remain
+  abbrev pub hole_answers : (n room : ℕ) → List Bool
+  hole_answers n room =
+      some_flag fs (length us)
+      ∷ leb (length us + rank (bare us fs) (4 * length us)) room
+      ∷ edges_twice us faces
+      ∷ every (remains us fs faces) n
+      ∷ []
+
+  -- a refusal over a point names one that does not remain
+  abbrev pub Names : (n : ℕ) → Refusal → Type 0
+  Names n PointTable = Unit {0}
+  Names n TetTable = Unit {0}
+  Names n NotWhole = Unit {0}
+  Names n OffGrid = Unit {0}
+  Names n Penalty = Unit {0}
+  Names n Reading = Unit {0}
+  Names n PointsFull = Unit {0}
+  Names n PlaceTaken = Unit {0}
+  Names n NoConflict = Unit {0}
+  Names n TetsFull = Unit {0}
+  Names n ShellOpen = Unit {0}
+  Names n (Vanishes q) = (q < n) × (remains us fs faces q ≡ false)
+  Names n Unowned = Unit {0}
 
 some_below_same : (p q : ℕ → Bool) (n : ℕ) → ((k : ℕ) → k < n → p k ≡ q k) → some_below p n ≡ some_below q n
 some_below_same p q zero h = refl
@@ -75,25 +106,36 @@ module _ (conflict : Tet → Bool) (us : List TetRecord) (fs : List Bool) (flagg
       let same = ap first_no (questions_same n room) in
       (num ∙ ap (λ k. 9 + k) same, subst (λ (k : ℕ). k < 4) same low, names_same n e names)
 
-  -- ---- four times yes
+-- ---- four times yes
 
-  module _ (n room kept shell : ℕ) (yes : first_no (hole_answers us fs n room) ≡ 4) (k_is : kept ≡ rank (left fs) (length us)) (s_is : shell ≡ rank (bare us fs) (4 * length us)) where
-    pub fitting : length us + shell ≤ room
-    fitting = let h = leb-true _ room (second_yes _ _ _ _ yes) in omega (arith, s_is)
+-- what a plan over records of which the flags tell the conflicting ones fills
+module _ (conflict : Tet → Bool) (p : Plan) (n room : ℕ) (flagged : Flagged conflict (records p) (flags p)) (yes : first_no (hole_questions conflict (records p) n room) ≡ 4) where
+  faces_count : length p.shell.faces.now ≡ length (shell_faces conflict (records p))
+  faces_count = shell_length (records p) (flags p) p.shell.faces.now p.shell.complete ∙ shell_count conflict (records p) (flags p) flagged p.shell.cavity.ready
 
-    pub fewer : kept ≤ length us
-    fewer = omega (arith, k_is, rank_le (left fs) (length us))
+  fitting : length (records p) + length (shell_faces conflict (records p)) ≤ room
+  fitting = leb-true _ room (second_yes _ _ _ _ yes)
 
-    pub filled : (out : List TetRecord) (p : Prepared) → p.count ≡ kept + shell → p.end ≡ length us + shell → take (kept + shell) out ≡ records_after conflict us n → Filled conflict us n room out p
-    filled out p c_is e_is done =
-        let total = length-records_after conflict n us in
-        let keeps_is = rank_kept conflict us fs flagged ready (length us) (omega arith) in
-        let bare_is = rank_exposed conflict us fs flagged ready (4 * length us) (omega arith) in
-        record {
-          asked = ap first_no (sym (questions_same n room)) ∙ yes;
-          records = ap (λ k. take k out) c_is ∙ done;
-          count = omega (arith, c_is, total, keeps_is, bare_is, k_is, s_is);
-          end = omega (arith, e_is, shell_count, s_is);
-          fewer = omega (arith, c_is, e_is, fewer);
-          fits = omega (arith, e_is, fitting);
-        }
+  pub filled : (q : Prepared) → q.records.now ≡ records_after conflict (records p) n → length q.records.now ≡ p.kept + length p.shell.faces.now
+      → q.end ≡ length (records p) + length p.shell.faces.now → Filled conflict (records p) n room q
+  filled q done c_is e_is =
+      let us = records p in
+      let few = rank_le (left (flags p)) (length us) in
+      record {
+        asked = yes;
+        records = done;
+        end = omega (arith, e_is, faces_count);
+        fewer = omega (arith, c_is, e_is, few, p.total);
+        fits = omega (arith, e_is, faces_count, fitting);
+      }
+
+-- the same over records that are the plan's
+pub filled_over : (conflict : Tet → Bool) (p : Plan) (n room : ℕ) (us : List TetRecord) → us ≡ records p → Flagged conflict us (flags p) → first_no (hole_questions conflict us n room) ≡ 4
+    → (q : Prepared) → q.records.now ≡ records_after conflict (records p) n → length q.records.now ≡ p.kept + length p.shell.faces.now
+    → q.end ≡ length us + length p.shell.faces.now → Filled conflict us n room q
+filled_over conflict p n room us same flagged asked q done long end =
+    subst (λ (rs : List TetRecord). Filled conflict rs n room q) (sym same)
+    (filled conflict p n room
+    (subst (λ (rs : List TetRecord). Flagged conflict rs (flags p)) same flagged)
+    (subst (λ (rs : List TetRecord). first_no (hole_questions conflict rs n room) ≡ 4) same asked)
+    q done long (end ∙ ap (λ (rs : List TetRecord). length rs + length p.shell.faces.now) same))

@@ -1,16 +1,17 @@
 -- The numbers that records get, read from flags and from the records that conflict.
-use Rattle.std.proofs.Common.{◌≡◌, ℕ, zero, suc, ◌+◌, ◌*◌, ◌/◌, ◌%◌, ◌<◌, ◌≤◌, Bool, true, false, cond, not, eqb, ◌≢◌, List, [], ◌∷◌, map, length, sym, refl, ap, ◌∙◌, inl, inr, arith}
+use Rattle.std.proofs.Common.{◌≡◌, ℕ, zero, suc, ◌+◌, ◌*◌, ◌/◌, ◌%◌, ◌<◌, ◌≤◌, Bool, true, false, cond, not, eqb, ◌≢◌, List, [], ◌∷◌, map, length, get_or, set, sym, refl, ap, ◌∙◌, inl, inr, arith}
 use Rattle.std.proofs.lemmas.List.{length-map, map-id}
 use Rattle.std.proofs.lemmas.Bool.{cases_eq, eq-eqb, ne_eqb, cond-true, cond-false}
 use Rattle.mesh.proofs.Ranks.{length-passing, map-passing}
 use Rattle.mesh.specs.Added.{across, beside, drops, exposed, keeps, kept_number, new_number, new_record, passing, rank, renumbered, shell_faces}
-use Rattle.mesh.specs.Records.{none, row, point, neighbour, tet_of, face_at, opposite}
+use Rattle.mesh.specs.Records.{none, fours, row, point, neighbour, tet_of, face_at, opposite}
 use Rattle.mesh.specs.Tetrahedra.{Tet, Triple}
 use Rattle.mesh.specs.declared.record.TetRecord.{TetRecord}
 use Rattle.survey.specs.Cavity.{Ready, Flagged, gone, left, bare, bare_faces, face_number}
 use Rattle.survey.specs.Edges.{has_edge, partner}
+use Rattle.survey.proofs.Sharing.{record_of, slot_of}
 use Rattle.survey.specs.Plans.{new_neighbour}
-use Rattle.survey.specs.declared.cavity.shell.ShellFace.{ShellFace}
+use Rattle.survey.specs.declared.cavity.shell_face.ShellFace.{ShellFace}
 
 -- ---- ranks
 
@@ -77,32 +78,41 @@ module _ (conflict : Tet → Bool) (rs : List TetRecord) (fs : List Bool) (flagg
 
   -- ---- the neighbours of a new record
 
-  pub own_neighbour : (face : ShellFace) (j : ℕ) → face.slot < 4 → j ≡ face.slot
+  pub own_neighbour : (face : ShellFace) (j : ℕ) → j ≡ face.slot
       → renumbered conflict rs (face_at (row rs face.record) j) (neighbour (row rs face.record) j) ≡ new_neighbour conflict rs (face_number face) j
-  own_neighbour face j l e =
-      let d : (4 * face.record + face.slot) / 4 ≡ face.record = omega arith in
-      let s : (4 * face.record + face.slot) % 4 ≡ face.slot = omega arith in
+  own_neighbour face j e =
+      let d = record_of face in
+      let s = slot_of face in
       sym (cond-true (eqb j (face_number face % 4)) _ (beside conflict rs (face_number face) j) (eq-eqb j (face_number face % 4) (e ∙ sym s)) ∙ rw (d, s, e))
 
-  pub new_beside : (ss : List ShellFace) (face : ShellFace) (j : ℕ) → map face_number ss ≡ bare_faces rs fs → face.slot < 4 → j ≢ face.slot
+  pub new_beside : (ss : List ShellFace) (face : ShellFace) (j : ℕ) → map face_number ss ≡ bare_faces rs fs → j ≢ face.slot
       → rank (left fs) (length rs) + partner rs (map face_number ss) (face_number face) j ≡ new_neighbour conflict rs (face_number face) j
   unfolding partner has_edge
-  new_beside ss face j e l n =
-      let s : (4 * face.record + face.slot) % 4 ≡ face.slot = omega arith in
+  new_beside ss face j e n =
+      let s = slot_of face in
       sym (
       cond-false (eqb j (face_number face % 4)) _ (beside conflict rs (face_number face) j) (ne_eqb j (face_number face % 4) (λ i. n (i ∙ s)))
       ∙ rw (rank_kept (length rs) (omega arith), shell_same, e)
       )
 
-  -- a new record, point by point and neighbour by neighbour
-  pub new_record_is : (n : ℕ) (face : ShellFace) (p0 p1 p2 p3 n0 n1 n2 n3 : ℕ) → face.slot < 4
-      → p0 ≡ new_point rs n face 0 → p1 ≡ new_point rs n face 1 → p2 ≡ new_point rs n face 2 → p3 ≡ new_point rs n face 3
-      → n0 ≡ new_neighbour conflict rs (face_number face) 0 → n1 ≡ new_neighbour conflict rs (face_number face) 1
-      → n2 ≡ new_neighbour conflict rs (face_number face) 2 → n3 ≡ new_neighbour conflict rs (face_number face) 3
-      → record { points = p0 ∷ p1 ∷ p2 ∷ p3 ∷ []; neighbours = n0 ∷ n1 ∷ n2 ∷ n3 ∷ []; mark = 0 } ≡ new_record conflict rs n (face_number face)
-  new_record_is n face p0 p1 p2 p3 n0 n1 n2 n3 l e0 e1 e2 e3 f0 f1 f2 f3 =
-      let d : (4 * face.record + face.slot) / 4 ≡ face.record = omega arith in
-      let s : (4 * face.record + face.slot) % 4 ≡ face.slot = omega arith in
-      let points : p0 ∷ p1 ∷ p2 ∷ p3 ∷ [] ≡ (new_record conflict rs n (face_number face)).points = rw (d, s, e0, e1, e2, e3) in
-      let neighbours : n0 ∷ n1 ∷ n2 ∷ n3 ∷ [] ≡ (new_record conflict rs n (face_number face)).neighbours = rw (f0, f1, f2, f3) in
-      λ i. record { points = points i; neighbours = neighbours i; mark = 0 }
+  -- the points of a new record, and the record
+  pub new_record_is : (n : ℕ) (face : ShellFace) (ps ns : List ℕ) → ps ≡ fours (new_point rs n face) → ns ≡ fours (new_neighbour conflict rs (face_number face))
+      → record { points = ps; neighbours = ns; mark = 0 } ≡ new_record conflict rs n (face_number face)
+  new_record_is n face ps ns e f =
+      let d = record_of face in
+      let s = slot_of face in
+      let points : ps ≡ (new_record conflict rs n (face_number face)).points = e ∙ rw (d, s) in
+      λ i. record { points = points i; neighbours = f i; mark = 0 }
+
+-- the points of a record with one replaced
+pub point_replaced : (ps : List ℕ) (n slot : ℕ) → length ps ≡ 4 → slot < 4 → set ps slot n ≡ fours (λ j. cond (eqb j slot) n (get_or ps j 0))
+point_replaced [] n slot long l = absurd (omega arith)
+point_replaced (a ∷ []) n slot long l = absurd (omega arith)
+point_replaced (a ∷ b ∷ []) n slot long l = absurd (omega arith)
+point_replaced (a ∷ b ∷ c ∷ []) n slot long l = absurd (omega arith)
+point_replaced (a ∷ b ∷ c ∷ d ∷ []) n zero long l = refl
+point_replaced (a ∷ b ∷ c ∷ d ∷ []) n (suc zero) long l = refl
+point_replaced (a ∷ b ∷ c ∷ d ∷ []) n (suc (suc zero)) long l = refl
+point_replaced (a ∷ b ∷ c ∷ d ∷ []) n (suc (suc (suc zero))) long l = refl
+point_replaced (a ∷ b ∷ c ∷ d ∷ []) n (suc (suc (suc (suc i)))) long l = absurd (omega arith)
+point_replaced (a ∷ b ∷ c ∷ d ∷ e ∷ ps) n slot long l = absurd (omega arith)

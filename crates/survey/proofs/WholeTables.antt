@@ -2,22 +2,24 @@
 use Rattle.std.proofs.Common.{◌≡◌, ℕ, zero, suc, ◌<◌, ◌≤◌, Bool, true, false, cond, ◌&&◌, eqb, ltb, List, length, get_or, take, ℤ, pos, ◌<ℤ◌, Decides, sym, refl, ap, ◌∙◌, subst, inl, inr, arith, lit≤, length-take}
 use lib.Signed.{lt_z}
 use Rattle.std.proofs.lemmas.Int.{ints}
-use Rattle.std.proofs.lemmas.Bool.{and_from, and_left, and_parts, and_right, cases_lt, ltb-true, ltb-false}
-use Rattle.std.proofs.lemmas.Bool.Decides.{nat_tests as tells, Decides-eqb, Decides-and, Decides-at, Decides-like, Decides-below_and}
+use Rattle.std.proofs.lemmas.Bool.{and_from, and_left, and_right, cases_lt, ltb-true, ltb-false}
+use Rattle.std.proofs.lemmas.Bool.Decides.{nat_tests as tells, Decides-eqb, Decides-and, Decides-at, Decides-like, Decides-below_and, Decides-by_and}
+use Rattle.std.specs.List.{All, enumerate_from, list_all}
+use Rattle.std.proofs.lemmas.List.Elements.{All-get_or, All-from_get_or}
+use Rattle.std.proofs.lemmas.List.FromFn.{get_or-enumerate_from, length-enumerate_from}
 use Rattle.geometry.specs.Limits.{Light}
 use Rattle.geometry.specs.Spots.{Spot, InLimits}
 use Rattle.mesh.specs.declared.record.TetRecord.{TetRecord}
-use Rattle.mesh.specs.Orientations.{Under}
-use Rattle.mesh.specs.Records.{Whole, every, row, tet_of, under, proper, linked, whole_at, whole}
+use Rattle.mesh.specs.Records.{Whole, every, row, tet_of, whole_at, whole}
 use Rattle.mesh.specs.Spaces.{side_of}
 use Rattle.mesh.specs.Surveys.{OnGrid}
-use Rattle.mesh.specs.Tetrahedra.{Tet}
 use Rattle.mesh.proofs.WholeTests.{whole_tells}
 use Rattle.survey.specs.declared.counts.Counts.{Counts}
 use Rattle.survey.specs.declared.record.PointRecord.{PointRecord}
 use Rattle.survey.specs.Corners.{corner, is_corner}
 use Rattle.survey.specs.Tables.{AllInLimits, blank_point, spot_of, spots, used_points, used_tets}
-use Rattle.survey.specs.Wholeness.{WholePoint, WholeTables, as_created, is_site, whole_point, whole_points, whole_tets, whole_tables}
+use Rattle.survey.specs.Wholeness.{WholePoint, WholeTables, as_created, is_site, whole_point, whole_points, whole_tet, whole_tets, whole_tables}
+use Rattle.survey.proofs.Ranges.{every_listed}
 
 -- ---- points
 
@@ -61,8 +63,23 @@ point_tells k p =
 
 points_tell : (ps : List PointRecord) → Decides (whole_points ps) ((k : ℕ) → k < length ps → WholePoint k (get_or ps k blank_point))
 points_tell ps =
-    let test : ℕ → Bool = λ k. whole_point k (get_or ps k blank_point) in
-    Decides-below_and test (λ k. WholePoint k (get_or ps k blank_point)) (every test) (λ k. point_tells k (get_or ps k blank_point)) refl (λ _. refl) (length ps)
+    Decides-like (whole_points ps) there back
+    (Decides-by_and (λ e. whole_point e.0 e.1) Told (list_all (λ e. whole_point e.0 e.1)) (λ e. point_tells e.0 e.1) refl (λ _ _. refl) numbered)
+  where
+    Told : ℕ × PointRecord → Type 0
+    Told e = WholePoint e.0 e.1
+
+    numbered : List (ℕ × PointRecord)
+    numbered = enumerate_from 0 ps
+
+    at : (k : ℕ) → k < length ps → get_or numbered k (0, blank_point) ≡ (k, get_or ps k blank_point)
+    at k l = get_or-enumerate_from 0 ps k (0, blank_point) l ∙ ap (λ (n : ℕ). (n, get_or ps k blank_point)) (omega arith)
+
+    there : All Told numbered → (k : ℕ) → k < length ps → WholePoint k (get_or ps k blank_point)
+    there h k l = subst Told (at k l) (All-get_or Told numbered k (0, blank_point) (omega (arith, length-enumerate_from 0 ps)) h)
+
+    back : ((k : ℕ) → k < length ps → WholePoint k (get_or ps k blank_point)) → All Told numbered
+    back h = All-from_get_or Told numbered (0, blank_point) (λ k m. let l : k < length ps = omega (arith, length-enumerate_from 0 ps) in subst Told (sym (at k l)) (h k l))
 
 corner_limits : (k : ℕ) → InLimits (corner k)
 corner_limits zero = record { near = lit≤ tt; light = lit≤ tt }
@@ -82,16 +99,6 @@ pub points_limits : (ps : List PointRecord) → whole_points ps ≡ true → All
 points_limits ps e k l = point_limits k (get_or ps k blank_point) ((points_tell ps).0 e k l)
 
 -- ---- tetrahedra
-
-under_holds : (n : ℕ) (t : Tet) → under n t ≡ true → Under n t
-under_holds n t e = grind (arith, tells)
-
-pub record_under : (n : ℕ) (ts : List TetRecord) (k : ℕ) → whole_at n ts k ≡ true → Under n (tet_of (row ts k))
-record_under n ts k e =
-    let t = tet_of (row ts k) in
-    let marked = eqb (row ts k).mark 0 in
-    let formed = (and_parts marked (proper t && under n t) (and_parts (marked && (proper t && under n t)) (every (linked ts k) 4) e).0).1 in
-    under_holds n t (and_parts (proper t) (under n t) formed).1
 
 decides_positive : (z : ℤ) → Decides (lt_z (pos 0) z) (pos 0 <ℤ z)
 decides_positive z = (λ e. grind (arith, ints), λ h. grind (arith, ints))
@@ -114,7 +121,7 @@ tets_tell : (n : ℕ) (ss : List Spot) (ts : List TetRecord) → Decides (whole_
 tets_tell n ss ts =
     let side : ℕ → ℤ = λ k. side_of ss (tet_of (row ts k)) in
     let test : ℕ → Bool = λ k. lt_z (pos 0) (side k) in
-    Decides-at (whole_tets n ss ts) (whole n ts && every test (length ts)) (every_and (whole_at n ts) test (length ts))
+    Decides-at (whole_tets n ss ts) (whole n ts && every test (length ts)) (every_listed (whole_tet n ss ts) (length ts) ∙ every_and (whole_at n ts) test (length ts))
     (Decides-and (whole n ts) (every test (length ts)) (whole_tells n ts)
     (Decides-below_and test (λ k. pos 0 <ℤ side k) (every test) (λ k. decides_positive (side k)) refl (λ _. refl) (length ts)))
 

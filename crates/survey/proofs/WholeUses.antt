@@ -1,15 +1,14 @@
 -- What holds of the used records of whole tables.
-use Rattle.std.proofs.Common.{◌≡◌, ℕ, ◌<◌, ◌⊎◌, List, length, get_or, sym, subst, inl, inr, arith}
-use Rattle.std.proofs.lemmas.List.{get_or-take}
+use Rattle.std.proofs.Common.{◌≡◌, ℕ, ◌<◌, ◌⊎◌, List, length, subst, inl, inr, arith}
 use Rattle.std.proofs.lemmas.Bool.{cases_Bool}
 use Rattle.mesh.specs.declared.record.TetRecord.{TetRecord}
 use Rattle.mesh.specs.Orientations.{Under}
-use Rattle.mesh.specs.Records.{WholeAt, blank, face_at, is_outer, neighbour, none, row, tet_of}
+use Rattle.mesh.specs.Records.{WholeAt, face_at, is_outer, neighbour, none, row, tet_of}
 use Rattle.survey.specs.declared.counts.Counts.{Counts}
 use Rattle.survey.specs.declared.record.PointRecord.{PointRecord}
-use Rattle.survey.specs.Tables.{AllInLimits, blank_point, used_points, used_tets}
+use Rattle.survey.specs.Tables.{used_points, used_tets}
 use Rattle.survey.specs.Wholeness.{WholeTables}
-use Rattle.survey.proofs.WholeTables.{point_limits, used_length}
+use Rattle.survey.proofs.WholeTables.{used_length}
 
 module _ (c : Counts) (ps : List PointRecord) (readings : ℕ) (ts : List TetRecord) (w : WholeTables c ps readings ts) where
   -- the used records are as many as counted
@@ -18,17 +17,6 @@ module _ (c : Counts) (ps : List PointRecord) (readings : ℕ) (ts : List TetRec
 
   pub used_tets_length : length (used_tets c ts) ≡ c.tets
   used_tets_length = used_length c.tets ts (omega (arith, w.tet_table))
-
-  -- a used record is the table's
-  pub used_point : (k : ℕ) → k < c.points → get_or (used_points c ps) k blank_point ≡ get_or ps k blank_point
-  used_point k l = get_or-take c.points ps k blank_point l
-
-  pub used_tet : (k : ℕ) → k < c.tets → row (used_tets c ts) k ≡ row ts k
-  used_tet k l = get_or-take c.tets ts k blank l
-
-  -- each used point record gives a point
-  pub used_limits : AllInLimits (used_points c ps)
-  used_limits k l = point_limits k (get_or (used_points c ps) k blank_point) (w.points k (omega (arith, used_points_length)))
 
   -- a used tetrahedron has mark 0, well-formed points and the right neighbours
   pub used_whole : (k : ℕ) → k < c.tets → WholeAt c.points (used_tets c ts) k
@@ -44,7 +32,3 @@ module _ (c : Counts) (ps : List PointRecord) (readings : ℕ) (ts : List TetRec
     | inl e ↦ inl ((used_whole k l).outer i j e)
     | inr e ↦ inr (subst (λ (n : ℕ). neighbour (row (used_tets c ts) k) i < n) used_tets_length ((used_whole k l).inner i j e).within)
   ]
-
-  -- what posting over the used records asks
-  pub used_under_all : (k : ℕ) → k < length (used_tets c ts) → Under (length (used_points c ps)) (tet_of (row (used_tets c ts) k))
-  used_under_all k l = subst (λ (n : ℕ). Under n (tet_of (row (used_tets c ts) k))) (sym used_points_length) (used_under k (omega (arith, used_tets_length)))

@@ -14,7 +14,7 @@ use Rattle.survey.specs.Plans.{table_after}
 use Rattle.survey.specs.Prepares.{Filled, NamesLost, hole_questions}
 use Rattle.survey.specs.Questions.{first_no, site_questions}
 use Rattle.survey.specs.Refusals.{number_of}
-use Rattle.survey.specs.Tables.{spots, used_tets}
+use Rattle.survey.specs.Tables.{Lent, spots, used_tets}
 
 -- the record of a site, with mark 0
 abbrev pub site_record : Spot → PointRecord
@@ -26,19 +26,20 @@ questions L c ps readings ts s admitted =
     site_questions c ps readings ts s admitted ++ hole_questions (conflicting (spots c ps) L s) (used_tets c ts) c.points c.tet_records
 
 -- ten times yes, with the records after the add, and the site has a place in the tables; or the refusal of the first no
-pub record Ready (L : Lift) (c : Counts) (ps : List PointRecord) (readings : ℕ) (ts : List TetRecord) (s : Spot) (admitted : Bool) (out : List TetRecord) (p : Prepared) : Type 0 where
+pub record Ready (L : Lift) (c : Counts) (ps : List PointRecord) (readings : ℕ) (ts : List TetRecord) (s : Spot) (admitted : Bool) (p : Prepared) : Type 0 where
   pub asked : first_no (questions L c ps readings ts s admitted) ≡ 10
   pub point_place : c.points < length ps
   pub reading_place : c.points < readings
   pub room : c.points < c.point_records
   pub table : length ts ≡ c.tet_records
   pub used : length (used_tets c ts) ≡ c.tets
-  pub filled : Filled (conflicting (spots c ps) L s) (used_tets c ts) c.points c.tet_records out p
+  pub filled : Filled (conflicting (spots c ps) L s) (used_tets c ts) c.points c.tet_records p
 
-abbrev pub Examined : Lift → Counts → List PointRecord → (readings : ℕ) → List TetRecord → Spot → (admitted : Bool) → List TetRecord → Result Prepared Refusal → Type 0
-Examined L c ps readings ts s admitted out (Ok p) = Ready L c ps readings ts s admitted out p
-Examined L c ps readings ts s admitted out (Err e) =
-    (number_of e ≡ 3 + first_no (questions L c ps readings ts s admitted)) × (first_no (questions L c ps readings ts s admitted) < 10) × NamesLost (conflicting (spots c ps) L s) (used_tets c ts) c.points e
+abbrev pub Examined : {R : Type 0} → Lift → Counts → Lent R → Spot → (admitted : Bool) → Result Prepared Refusal → Type 0
+Examined L c t s admitted (Ok p) = Ready L c t.points (length t.readings) t.tets s admitted p
+Examined L c t s admitted (Err e) =
+    (number_of e ≡ 3 + first_no (questions L c t.points (length t.readings) t.tets s admitted)) × (first_no (questions L c t.points (length t.readings) t.tets s admitted) < 10)
+    × NamesLost (conflicting (spots c t.points) L s) (used_tets c t.tets) c.points e
 
 -- given what the measure and the grading mean, the counts, the tables, the site and its reading
 module _ {R : Type 0} (L : Lift) (admits : R → Bool) (c : Counts) (ps : List PointRecord) (rs : List R) (ts : List TetRecord) (s : Spot) (r : R) where
@@ -71,6 +72,7 @@ module _ {R : Type 0} (L : Lift) (admits : R → Bool) (c : Counts) (ps : List P
     pub readings : rs' ≡ rs
     pub tets : ts' ≡ ts
 
-  abbrev pub AddsTo : Counts → List PointRecord → List R → List TetRecord → Result ℕ Refusal → Type 0
-  AddsTo c' ps' rs' ts' (Ok n) = Accepted c' ps' rs' ts' n
-  AddsTo c' ps' rs' ts' (Err e) = Refused c' ps' rs' ts' e
+-- Given the counts and the tables, a site with its reading is added or refused: the counts and the tables that are left, and the answer.
+abbrev pub AddsTo : {R : Type 0} → Lift → (admits : R → Bool) → Counts → Lent R → Spot → R → Counts → Lent R → Result ℕ Refusal → Type 0
+AddsTo L admits c t s r c' t' (Ok n) = Accepted L admits c t.points t.readings t.tets s r c' t'.points t'.readings t'.tets n
+AddsTo L admits c t s r c' t' (Err e) = Refused L admits c t.points t.readings t.tets s r c' t'.points t'.readings t'.tets e

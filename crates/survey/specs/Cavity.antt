@@ -1,11 +1,11 @@
 -- The hole that an add makes in the used records, told from flags: one for each record, set where it is dropped.
 use Rattle.std.specs.Prelude.{◌≡◌, ℕ, ◌+◌, ◌*◌, ◌/◌, ◌<◌, ◌≤◌, Bool, false, cond, not, ◌&&◌, ◌||◌, ◌≢◌, List, length, ◌==◌, slice_index, slice_index_or}
-use Rattle.std.specs.List.{AllByRecursion}
+use Rattle.std.specs.List.{All}
 use Rattle.mesh.specs.Added.{across, drops, passing, rank}
 use Rattle.mesh.specs.Records.{none, row, neighbour}
 use Rattle.mesh.specs.Tetrahedra.{Tet}
 use Rattle.mesh.specs.declared.record.TetRecord.{TetRecord}
-use Rattle.survey.specs.declared.cavity.shell.ShellFace.{ShellFace}
+use Rattle.survey.specs.declared.cavity.shell_face.ShellFace.{ShellFace}
 
 -- there are at most 16,384 used records with a flag each, and each neighbour is none or a used record
 pub record Ready (rs : List TetRecord) (fs : List Bool) : Type 0 where
@@ -35,13 +35,9 @@ bare_faces rs fs = passing (bare rs fs) (4 * length rs)
 abbrev pub face_number : ShellFace → ℕ
 face_number f = 4 * f.record + f.slot
 
--- what a read past the shell faces gives
-abbrev pub blank_face : ShellFace
-blank_face = record { «record» = 0; slot = 0 }
-
 -- some faces are each one of a used record
 abbrev pub Placed : List TetRecord → List ShellFace → Type 0
-Placed rs ss = AllByRecursion (λ f. (f.record < length rs) × (f.slot < 4)) ss
+Placed rs ss = All (λ f. f.record < length rs) ss
 
 -- the number noted for record k: among the kept ones that of a kept record, and of a dropped one how many shell faces precede its own
 abbrev pub noted : List TetRecord → List Bool → (k : ℕ) → ℕ

@@ -8,6 +8,7 @@ use Rattle.survey.specs.declared.record.PointRecord.{PointRecord}
 use Rattle.survey.specs.declared.refusal.Refusal.{Refusal}
 use Rattle.survey.specs.declared.refusal.Refusal.TheVariants.{PointTable, TetTable}
 use Rattle.survey.specs.Corners.{corner_records}
+use Rattle.survey.specs.Tables.{Lent}
 
 -- 5 to 1,024 point records, and as many readings
 abbrev pub fit_points : (points readings : ℕ) → Bool
@@ -36,10 +37,11 @@ with_corners ps = corner_records ++ drop 4 ps
 abbrev pub with_big : List TetRecord → List TetRecord
 with_big ts = slice_set ts 0 big_record
 
--- Tables ps, rs and ts come in, and ps', rs' and ts' are left. No reading changes, and no record behind the corners and the
--- big tetrahedron; a refusal changes none.
-abbrev pub Created : {M G R : Type 0} → M → G → (ps ps' : List PointRecord) (rs rs' : List R) (ts ts' : List TetRecord) → Result (Open M G) Refusal → Type 0
-Created m g ps ps' rs rs' ts ts' (Ok o) =
-    (unfit (length ps) (length rs) (length ts) ≡ None) × Begun (length ps) (length ts) o.counts × (o.measure ≡ m) × (o.grading ≡ g)
-    × (ps' ≡ with_corners ps) × (rs' ≡ rs) × (ts' ≡ with_big ts)
-Created m g ps ps' rs rs' ts ts' (Err e) = (unfit (length ps) (length rs) (length ts) ≡ Some e) × (ps' ≡ ps) × (rs' ≡ rs) × (ts' ≡ ts)
+-- Tables t come in, and t' are left. No reading changes, and no record behind the corners and the big tetrahedron; a refusal
+-- changes none.
+abbrev pub Created : {M G R : Type 0} → M → G → (t t' : Lent R) → Result (Open M G) Refusal → Type 0
+Created m g t t' (Ok o) =
+    (unfit (length t.points) (length t.readings) (length t.tets) ≡ None) × Begun (length t.points) (length t.tets) o.counts × (o.measure ≡ m) × (o.grading ≡ g)
+    × (t'.points ≡ with_corners t.points) × (t'.readings ≡ t.readings) × (t'.tets ≡ with_big t.tets)
+Created m g t t' (Err e) =
+    (unfit (length t.points) (length t.readings) (length t.tets) ≡ Some e) × (t'.points ≡ t.points) × (t'.readings ≡ t.readings) × (t'.tets ≡ t.tets)

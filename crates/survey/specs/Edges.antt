@@ -4,12 +4,7 @@ use Rattle.std.specs.List.{prefix_len}
 use Rattle.algebra.specs.Lists.{all}
 use Rattle.mesh.specs.Added.{edge_on, face_of}
 use Rattle.mesh.specs.Records.{every, row}
-use Rattle.mesh.specs.Tetrahedra.{Triple}
 use Rattle.mesh.specs.declared.record.TetRecord.{TetRecord}
-use Rattle.survey.specs.declared.cavity.triangle.Triangle.{Triangle}
-
-abbrev pub three : Triangle → Triple
-three t = record { x = t.x; y = t.y; z = t.z }
 
 -- face p has the edge of face q that lacks point j of its record
 unfoldable pub has_edge : List TetRecord → (q j p : ℕ) → Bool

@@ -8,8 +8,11 @@ pub mod Posting
 pub mod Refusals
 pub mod Resumes
 pub mod Seals
+pub mod Sites
 pub mod States
 pub mod Tables
+pub mod Views
+pub mod Wholes
 pub mod Wholeness
 pub mod Cavity
 pub mod Edges

@@ -1,5 +1,5 @@
 -- What locating a place in a sealed survey answers.
-use Rattle.std.specs.Prelude.{ℕ, ◌<◌, List, Ok, Err, Result}
+use Rattle.std.specs.Prelude.{ℕ, ◌<◌, List, length, Ok, Err, Result}
 use Rattle.geometry.specs.Spots.{bare}
 use Rattle.mesh.specs.declared.record.TetRecord.{TetRecord}
 use Rattle.mesh.specs.Owners.{Owns}
@@ -10,7 +10,7 @@ use Rattle.survey.specs.declared.record.PointRecord.{PointRecord}
 use Rattle.survey.specs.declared.refusal.Refusal.{Refusal}
 use Rattle.survey.specs.declared.refusal.Refusal.TheVariants.{NotWhole, OffGrid, Unowned}
 use Rattle.survey.specs.Refusals.{number_of}
-use Rattle.survey.specs.Tables.{spots, used_tets}
+use Rattle.survey.specs.Tables.{Lent, spots, used_tets}
 use Rattle.survey.specs.Wholeness.{WholeTables}
 
 -- used record k owns the place
@@ -19,12 +19,12 @@ OwnsAt c ps ts x y z k = Owns (spots c ps) (bare x y z) (tet_of (row (used_tets 
 
 -- Given the counts, the tables and the place, the answer is the refusal of the first question that is answered no, or the lowest
 -- used record that owns the place. Of the readings only the number is looked at.
-module _ (c : Counts) (ps : List PointRecord) (readings : ℕ) (ts : List TetRecord) (x y z : ℕ) where
+module _ {R : Type 0} (c : Counts) (t : Lent R) (x y z : ℕ) where
   pub data Located : Result ℕ Refusal → Type 0 where
-    not_whole : ¬ WholeTables c ps readings ts → Located (Err NotWhole)
-    off_grid : WholeTables c ps readings ts → ¬ OnGrid (bare x y z) → Located (Err OffGrid)
-    unowned : WholeTables c ps readings ts → OnGrid (bare x y z) → ((k : ℕ) → k < c.tets → ¬ OwnsAt c ps ts x y z k) → Located (Err Unowned)
-    lowest_owner : WholeTables c ps readings ts → OnGrid (bare x y z) → (k : ℕ) → k < c.tets → OwnsAt c ps ts x y z k → ((j : ℕ) → j < k → ¬ OwnsAt c ps ts x y z j) → Located (Ok k)
+    not_whole : ¬ WholeTables c t.points (length t.readings) t.tets → Located (Err NotWhole)
+    off_grid : WholeTables c t.points (length t.readings) t.tets → ¬ OnGrid (bare x y z) → Located (Err OffGrid)
+    unowned : WholeTables c t.points (length t.readings) t.tets → OnGrid (bare x y z) → ((k : ℕ) → k < c.tets → ¬ OwnsAt c t.points t.tets x y z k) → Located (Err Unowned)
+    lowest_owner : WholeTables c t.points (length t.readings) t.tets → OnGrid (bare x y z) → (k : ℕ) → k < c.tets → OwnsAt c t.points t.tets x y z k → ((j : ℕ) → j < k → ¬ OwnsAt c t.points t.tets x y z j) → Located (Ok k)
 
 -- the answer as the rules tell it
 abbrev pub located_answer : Result ℕ Refusal → Answer

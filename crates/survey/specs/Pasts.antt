@@ -1,6 +1,6 @@
 -- The past of a survey: what creating did, and one call after the other, each by the definition that its contract cites and
 -- each from the survey and the tables that the one before it left, refused or not.
-use Rattle.std.specs.Prelude.{◌≡◌, ℕ, Bool, true, false, List, [], ◌∷◌, map, length, Ok, Err, Result}
+use Rattle.std.specs.Prelude.{◌≡◌, ℕ, Bool, true, false, List, [], ◌∷◌, map, Ok, Err, Result}
 use Rattle.geometry.specs.Lifts.{Lift}
 use Rattle.geometry.specs.Spots.{Spot}
 use Rattle.mesh.specs.Surveys.{Call, add, locate, seal, state, Answer, accepted, refused, refused_over, sealed, stated}
@@ -73,16 +73,16 @@ module _ {M G R : Type 0} (lifts : M → Lift) (admitted : G → R → Bool) (cl
   -- which order, and which of them are refused, is free; the measure and the grading are those of the creation throughout.
   pub data Ran : List (Call R × Answer) → Survey M G → Lent R → Type 0 where
     creates : (m : M) (g : G) (o : Open M G) (before after : Lent R)
-        → Created m g before.points after.points before.readings after.readings before.tets after.tets (Ok o)
+        → Created m g before after (Ok o)
         → Ran [] (opened o) after
     adds : {past : List (Call R × Answer)} (o o' : Open M G) (before after : Lent R) (s : Spot) (r : R) (a : Result ℕ Refusal) → Ran past (opened o) before
-        → AddsTo (lifts o.measure) (admitted o.grading) o.counts before.points before.readings before.tets s r o'.counts after.points after.readings after.tets a
+        → AddsTo (lifts o.measure) (admitted o.grading) o.counts before s r o'.counts after a
         → o'.measure ≡ o.measure → o'.grading ≡ o.grading
         → Ran ((add s r, add_told a) ∷ past) (opened o') after
     seals : {past : List (Call R × Answer)} (o : Open M G) (s : Sealed M G) (tables : Lent R) → Ran past (opened o) tables → SealedAs o s → Ran ((seal, sealed) ∷ past) (closed s) tables
     locates : {past : List (Call R × Answer)} (s : Sealed M G) (tables : Lent R) (x y z : ℕ) (a : Result ℕ Refusal) → Ran past (closed s) tables
-        → Located s.counts tables.points (length tables.readings) tables.tets x y z a
+        → Located s.counts tables x y z a
         → Ran ((locate x y z, located_answer a) ∷ past) (closed s) tables
     states : {past : List (Call R × Answer)} (s : Sealed M G) (tables : Lent R) (f f' : Statement) (a : Result (Unit {0}) Refusal) → Ran past (closed s) tables
-        → Stated (meaning admitted classed s.grading) s.counts tables.points tables.readings tables.tets f f' a
+        → Stated (meaning admitted classed s.grading) s.counts tables f f' a
         → Ran ((state, state_told f' a) ∷ past) (closed s) tables

@@ -1,31 +1,21 @@
 -- What is known of an add when its records are made.
-use Rattle.std.specs.Prelude.{◌≡◌, ℕ, ◌+◌, ◌-◌, ◌%◌, ◌≤◌, Bool, cond, List, ◌++◌, map, length, take, drop, replicate, ◌==◌}
-use Rattle.mesh.specs.Added.{across, beside, face_of, rank, records_after, renumbered, shell_faces}
+use Rattle.std.specs.Prelude.{ℕ, ◌+◌, ◌-◌, ◌%◌, Bool, cond, List, ◌++◌, length, take, drop, replicate, ◌==◌}
+use Rattle.mesh.specs.Added.{across, beside, face_of, records_after, renumbered, shell_faces}
 use Rattle.mesh.specs.Records.{fours}
 use Rattle.mesh.specs.Tetrahedra.{Tet}
 use Rattle.mesh.specs.declared.record.TetRecord.{TetRecord}
-use Rattle.survey.specs.Cavity.{Ready, Noted, Placed, left, bare_faces, face_number}
-use Rattle.survey.specs.declared.cavity.shell.ShellFace.{ShellFace}
+use Rattle.survey.specs.Cavity.{Flagged}
 use Rattle.survey.specs.declared.cavity.plan.Plan.{Plan}
 
 abbrev pub records : Plan → List TetRecord
-records p = p.used.now
+records p = p.shell.cavity.used.now
 
 abbrev pub flags : Plan → List Bool
-flags p = p.dropped.now
+flags p = p.shell.cavity.dropped.now
 
--- the numbers are noted, the shell faces are all there in order, and the kept records and the shell faces find room
-pub record Numbered (rs : List TetRecord) (fs : List Bool) (ns : List ℕ) (ss : List ShellFace) (kept : ℕ) : Type 0 where
-  pub ready : Ready rs fs
-  pub long : length rs ≤ length ns
-  pub noted : Noted rs fs (length rs) ns
-  pub total : kept ≡ rank (left fs) (length rs)
-  pub placed : Placed rs ss
-  pub faces : map face_number ss ≡ bare_faces rs fs
-  pub room : kept + length ss ≤ 16384
-
-abbrev pub Planned : Plan → Type 0
-Planned p = Numbered (records p) (flags p) p.numbers.now p.shell.now p.kept
+-- it holds of any test of conflict that the plan's flags tell
+abbrev pub ForConflict : Plan → ((conflict : Tet → Bool) → Type 0) → Type 0
+ForConflict p P = (conflict : Tet → Bool) → Flagged conflict (records p) (flags p) → P conflict
 
 -- neighbour j of the new record over shell face q
 abbrev pub new_neighbour : (conflict : Tet → Bool) → List TetRecord → (q j : ℕ) → ℕ

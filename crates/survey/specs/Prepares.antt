@@ -1,5 +1,5 @@
 -- Questions 7 to 10 of adding, of the hole that the site makes, and the records that fill it.
-use Rattle.std.specs.Prelude.{◌≡◌, ℕ, ◌+◌, ◌<◌, ◌≤◌, Bool, false, ◌||◌, List, [], ◌∷◌, length, take, Ok, Err, Result, nat_le}
+use Rattle.std.specs.Prelude.{◌≡◌, ℕ, ◌+◌, ◌<◌, ◌≤◌, Bool, false, ◌||◌, List, [], ◌∷◌, length, Ok, Err, Result, nat_le}
 use Rattle.algebra.specs.Lists.{some}
 use Rattle.mesh.specs.Added.{drops, kept_rows, records_after, shell_faces}
 use Rattle.mesh.specs.Records.{every, row, tet_of}
@@ -45,14 +45,13 @@ module _ (conflict : Tet → Bool) (us : List TetRecord) where
   NamesLost n Unowned = Unit {0}
 
   -- the records that are used when point n has been added, and how many the add writes or clears
-  pub record Filled (n room : ℕ) (out : List TetRecord) (p : Prepared) : Type 0 where
+  pub record Filled (n room : ℕ) (p : Prepared) : Type 0 where
     pub asked : first_no (hole_questions n room) ≡ 4
-    pub records : take p.count out ≡ records_after conflict us n
-    pub count : p.count ≡ length (records_after conflict us n)
+    pub records : p.records.now ≡ records_after conflict us n
     pub end : p.end ≡ length us + length (shell_faces conflict us)
-    pub fewer : p.count ≤ p.end
+    pub fewer : length p.records.now ≤ p.end
     pub fits : p.end ≤ room
 
-  abbrev pub PreparedBy : (n room : ℕ) → List TetRecord → Result Prepared Refusal → Type 0
-  PreparedBy n room out (Ok p) = Filled n room out p
-  PreparedBy n room out (Err e) = (number_of e ≡ 9 + first_no (hole_questions n room)) × (first_no (hole_questions n room) < 4) × NamesLost n e
+  abbrev pub PreparedBy : (n room : ℕ) → Result Prepared Refusal → Type 0
+  PreparedBy n room (Ok p) = Filled n room p
+  PreparedBy n room (Err e) = (number_of e ≡ 9 + first_no (hole_questions n room)) × (first_no (hole_questions n room) < 4) × NamesLost n e

@@ -11,7 +11,8 @@ use Rattle.geometry.specs.declared.point.Point.{Point}
 use Rattle.geometry.specs.Points.{spot}
 use Rattle.survey.specs.Places.{light, on_grid}
 use Rattle.survey.specs.Searches.{untaken}
-use Rattle.survey.specs.Tables.{used_points}
+use Rattle.survey.specs.Tables.{used_points, used_tets}
+use Rattle.survey.specs.declared.whole.Whole.{Whole}
 use Rattle.survey.specs.Wholeness.{whole_tables}
 
 -- the place of the first question that is answered no, or how many there are
@@ -29,7 +30,8 @@ site_questions c ps readings ts s admitted =
     ∷ untaken (used_points c ps) s.x s.y s.z
     ∷ []
 
--- six times yes, and the point of the site; or the refusal of the first no
-abbrev pub SiteAsked : (answers : List Bool) → Spot → Result Point Refusal → Type 0
-SiteAsked answers s (Ok p) = (first_no answers ≡ 6) × (spot p ≡ s)
-SiteAsked answers s (Err e) = (number_of e ≡ 3 + first_no answers) × (first_no answers < 6)
+-- six times yes, the used records and the point of the site; or the refusal of the first no
+module _ (c : Counts) (ps : List PointRecord) (readings : ℕ) (ts : List TetRecord) (s : Spot) (admitted : Bool) where
+  abbrev pub SiteAsked : Result (Whole × Point) Refusal → Type 0
+  SiteAsked (Ok r) = (first_no (site_questions c ps readings ts s admitted) ≡ 6) × (spot r.1 ≡ s) × (r.0.points.records.now ≡ used_points c ps) × (r.0.tets.now ≡ used_tets c ts)
+  SiteAsked (Err e) = (number_of e ≡ 3 + first_no (site_questions c ps readings ts s admitted)) × (first_no (site_questions c ps readings ts s admitted) < 6)

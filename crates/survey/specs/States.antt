@@ -3,20 +3,18 @@ use Rattle.std.specs.Prelude.{◌≡◌, ℕ, Bool, cond, List, map, length, ℤ
 use Rattle.std.specs.List.{slice_get}
 use Rattle.algebra.specs.Sums.{sum_z}
 use Rattle.geometry.specs.Spots.{Spot}
-use Rattle.mesh.specs.declared.record.TetRecord.{TetRecord}
 use Rattle.mesh.specs.Records.{mesh_of}
 use Rattle.mesh.specs.Spaces.{side_of}
 use Rattle.mesh.specs.Statements.{classes, cornered, graded, is_class}
 use Rattle.mesh.specs.Surveys.{Grading, Line as ToldLine}
 use Rattle.mesh.specs.Tetrahedra.{Tet}
 use Rattle.survey.specs.declared.counts.Counts.{Counts}
-use Rattle.survey.specs.declared.record.PointRecord.{PointRecord}
 use Rattle.survey.specs.declared.refusal.Refusal.{Refusal}
 use Rattle.survey.specs.declared.refusal.Refusal.TheVariants.{NotWhole}
 use Rattle.survey.specs.declared.statement.Line.{Line}
 use Rattle.survey.specs.declared.statement.Statement.{Statement}
 use Rattle.survey.specs.Posting.{post_class, post_margin}
-use Rattle.survey.specs.Tables.{spots, used_tets}
+use Rattle.survey.specs.Tables.{Lent, spots, used_tets}
 use Rattle.survey.specs.Wholeness.{WholeTables}
 
 -- what a grading means to a survey, by what its trait says of it
@@ -52,6 +50,6 @@ abbrev pub as_told : Line → ToldLine
 as_told l = record { tetrahedra = l.tetrahedra; units = l.units }
 
 -- Whole tables replace the statement s by their figures; others are refused, and leave it as it is.
-abbrev pub Stated : {R : Type 0} → Grading R → Counts → List PointRecord → List R → List TetRecord → (s s' : Statement) → Result (Unit {0}) Refusal → Type 0
-Stated G c ps rs ts s s' (Ok _) = WholeTables c ps (length rs) ts × (s' ≡ figures G (spots c ps) rs (mesh_of (used_tets c ts)))
-Stated G c ps rs ts s s' (Err e) = (e ≡ NotWhole) × (WholeTables c ps (length rs) ts → ⊥) × (s' ≡ s)
+abbrev pub Stated : {R : Type 0} → Grading R → Counts → Lent R → (s s' : Statement) → Result (Unit {0}) Refusal → Type 0
+Stated G c t s s' (Ok _) = WholeTables c t.points (length t.readings) t.tets × (s' ≡ figures G (spots c t.points) t.readings (mesh_of (used_tets c t.tets)))
+Stated G c t s s' (Err e) = (e ≡ NotWhole) × (WholeTables c t.points (length t.readings) t.tets → ⊥) × (s' ≡ s)

@@ -1,9 +1,11 @@
 -- The caller's tables, and what of them a survey uses.
-use Rattle.std.specs.Prelude.{ℕ, ◌<◌, List, map, length, take, slice_index_or}
+use Rattle.std.specs.Prelude.{◌≡◌, ℕ, ◌<◌, List, map, length, take, slice_index_or}
 use Rattle.geometry.specs.Spots.{Spot, InLimits}
 use Rattle.mesh.specs.declared.record.TetRecord.{TetRecord}
 use Rattle.survey.specs.declared.counts.Counts.{Counts}
 use Rattle.survey.specs.declared.record.PointRecord.{PointRecord}
+use Rattle.survey.specs.declared.tables.Tables.{Tables}
+use Rattle.survey.specs.declared.tables.TablesRef.{TablesRef}
 
 -- what a read past the point table gives
 abbrev pub blank_point : PointRecord
@@ -18,6 +20,17 @@ pub record Lent (R : Type 0) : Type 0 where
   pub points : List PointRecord
   pub readings : List R
   pub tets : List TetRecord
+
+-- what a call that may write finds in the tables, and what a call that reads is shown
+abbrev pub lent : {R : Type 0} → Tables R → Lent R
+lent t = record { points = t.points.now; readings = t.readings.now; tets = t.tets.now }
+
+abbrev pub shown : {R : Type 0} → TablesRef R → Lent R
+shown t = record { points = t.points.now; readings = t.readings.now; tets = t.tets.now }
+
+-- a call leaves the three references that it was lent, whatever it wrote behind them
+abbrev pub SameTables : {R : Type 0} → (t t' : Tables R) → Type 0
+SameTables t t' = (t'.points.ghost_name ≡ t.points.ghost_name) × (t'.readings.ghost_name ≡ t.readings.ghost_name) × (t'.tets.ghost_name ≡ t.tets.ghost_name)
 
 -- the records that a survey uses
 abbrev pub used_points : Counts → List PointRecord → List PointRecord

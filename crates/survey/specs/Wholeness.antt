@@ -1,9 +1,10 @@
 -- When the caller's tables are whole, in plain words and as a test.
 use Rattle.std.specs.Prelude.{◌≡◌, ℕ, ◌<◌, ◌≤◌, Bool, cond, ◌&&◌, List, length, pos, ◌<ℤ◌, ◌==◌, int_lt, nat_lt, slice_index_or}
+use Rattle.std.specs.List.{enumerate_from, list_all, range_with_len}
 use Rattle.geometry.specs.Limits.{Light}
 use Rattle.geometry.specs.Spots.{Spot}
 use Rattle.mesh.specs.declared.record.TetRecord.{TetRecord}
-use Rattle.mesh.specs.Records.{Whole, every, row, tet_of, whole_at}
+use Rattle.mesh.specs.Records.{Whole, row, tet_of, whole_at}
 use Rattle.mesh.specs.Spaces.{side_of}
 use Rattle.mesh.specs.Surveys.{OnGrid}
 use Rattle.survey.specs.declared.counts.Counts.{Counts}
@@ -43,14 +44,14 @@ abbrev pub whole_point : (k : ℕ) → PointRecord → Bool
 whole_point k p = p.mark == 0 && cond (nat_lt k 4) (is_corner k p) (is_site p)
 
 abbrev pub whole_points : List PointRecord → Bool
-whole_points ps = every (λ k. whole_point k (slice_index_or ps k blank_point)) (length ps)
+whole_points ps = list_all (λ e. whole_point e.0 e.1) (enumerate_from 0 ps)
 
 -- record k is whole among points below n, and its Side over some spots is positive
 abbrev pub whole_tet : (n : ℕ) → List Spot → List TetRecord → (k : ℕ) → Bool
 whole_tet n ss ts k = whole_at n ts k && int_lt (pos 0) (side_of ss (tet_of (row ts k)))
 
 abbrev pub whole_tets : (n : ℕ) → List Spot → List TetRecord → Bool
-whole_tets n ss ts = every (whole_tet n ss ts) (length ts)
+whole_tets n ss ts = list_all (whole_tet n ss ts) (range_with_len 0 (length ts))
 
 abbrev pub whole_tables : Counts → List PointRecord → (readings : ℕ) → List TetRecord → Bool
 whole_tables c ps readings ts =

@@ -1,8 +1,14 @@
 //! How many records a survey uses, of how many.
 ghost use Rattle.std.specs.Prelude.{◌≤◌};
 
+/// The most point records that a survey can have.
+pub(crate) const MOST_POINTS: usize = 1024;
+
+/// The most tetrahedron records that a survey can have.
+pub(crate) const MOST_TETS: usize = 16_384;
+
 /// The used records of each table and the table lengths at creation.
-#[derive(Clone, Copy)]
+#[derive(Clone, Copy, Debug, PartialEq, Eq, Hash)]
 pub struct Counts {
     pub(crate) points: usize,
     pub(crate) tets: usize,

@@ -1,43 +1,30 @@
 //! The ten questions of adding, asked on shared borrows.
 ghost use Rattle.std.specs.Prelude.{◌≡◌, length};
 ghost use Rattle.survey.specs.Adds.{Examined};
+ghost use Rattle.survey.specs.Sites.{site_spot};
+ghost use Rattle.survey.specs.Tables.{shown};
 
-use crate::counts::Counts;
+use crate::counts::{Counts, MOST_TETS};
 use crate::prepare::{Prepared, prepare};
 use crate::question::ask_site;
-use crate::record::PointRecord;
 use crate::refusal::Refusal;
+use crate::site::Site;
+use crate::tables::TablesRef;
 use geometry::measure::Measure;
 use mesh::record::TetRecord;
 
 /// Asks the ten questions of adding in their order. When every answer is yes, the used records after
-/// the add stand at the front of `records`.
-pub(crate) fn examine<M: Measure>(
+/// the add stand in `room`, and are lent.
+pub(crate) fn examine<'a, M: Measure, R>(
     measure: &M,
     counts: &Counts,
-    points: &[PointRecord],
-    readings: usize,
-    tets: &[TetRecord],
-    x: u16,
-    y: u16,
-    z: u16,
-    penalty: u32,
+    tables: &TablesRef<'_, R>,
+    site: Site,
     admitted: bool,
-    records: &mut [TetRecord],
-) -> Result<Prepared, Refusal>
-    requires { length records.old ≡ 16384 }
-    ensures { Examined (M.Measure.lifts measure.now) counts.now points.now readings tets.now (record { x = x; y = y; z = z; penalty = penalty }) admitted records.new result }
+    room: &'a mut [TetRecord; MOST_TETS],
+) -> Result<Prepared<'a>, Refusal>
+    ensures { Examined (M.Measure.lifts measure.now) counts.now (shown tables.now) (site_spot site) admitted result }
 {
-    let site = ask_site(counts, points, readings, tets, x, y, z, penalty, admitted)?;
-    let number = counts.points;
-    let used = counts.tets;
-    let room = counts.tet_records;
-    prepare(
-        measure,
-        &points[0..number],
-        &tets[0..used],
-        room,
-        &site,
-        records,
-    )
+    let (whole, site) = ask_site(counts, tables, site, admitted)?;
+    prepare(measure, &whole, counts.tet_records, &site, room)
 }

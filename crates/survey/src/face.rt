@@ -1,10 +1,10 @@
 //! Faces of tetrahedron records.
-ghost use Rattle.std.specs.Prelude.{◌≡◌, ◌<◌};
+ghost use Rattle.std.specs.Prelude.{◌≡◌, ◌<◌, [], ◌∷◌};
 ghost use Rattle.mesh.specs.Records.{face_at, is_outer, opposite as opposite_slot, tet_of};
 ghost use Rattle.mesh.specs.Tetrahedra.{has, has_face, on as is_on};
 ghost use Rattle.survey.specs.Faces.{triple_of};
 
-use crate::corner::FIRST_SITE;
+use crate::site::FIRST_SITE;
 use mesh::record::TetRecord;
 
 /// Three point numbers, in the order that they have around a tetrahedron.
@@ -17,6 +17,7 @@ pub(crate) struct Face {
 
 impl Face {
     /// Face `i` of a record: the points other than point `i`. A number past 3 counts as 3.
+    // So it asks nothing of its callers, and the last arm needs no `unreachable`.
     pub(crate) fn of(tet: &TetRecord, i: usize) -> Face
         ensures { triple_of result ≡ face_at tet.now i }
     {
@@ -29,18 +30,25 @@ impl Face {
         }
     }
 
+    /// The three point numbers in a list.
+    pub(crate) fn numbers(&self) -> [u16; 3]
+        ensures { result ≡ self.now.x ∷ self.now.y ∷ self.now.z ∷ [] }
+    {
+        [self.x, self.y, self.z]
+    }
+
     /// Whether the three points are corners.
     pub(crate) fn is_outer(&self) -> bool
         ensures { result ≡ is_outer (triple_of self.now) }
     {
-        self.x < FIRST_SITE && self.y < FIRST_SITE && self.z < FIRST_SITE
+        self.numbers().iter().all(|point| *point < FIRST_SITE)
     }
 
     /// Whether the point is one of the three.
     pub(crate) fn has_point(&self, point: u16) -> bool
         ensures { result ≡ is_on point (triple_of self.now) }
     {
-        point == self.x || point == self.y || point == self.z
+        self.numbers().contains(&point)
     }
 
     /// Whether the record has the three points, in whatever order.
@@ -51,28 +59,21 @@ impl Face {
     }
 
     /// The slot of the record's first point that is not one of the three, and 3 where there is none.
+    // A slot and no `Option`: there is none only where a record has a point twice, and such tables are refused.
     pub(crate) fn opposite(&self, tet: &TetRecord) -> usize
         ensures is { result ≡ opposite_slot (tet_of tet.now) (triple_of self.now) }
         ensures slot { result < 4 }
     {
-        if !self.has_point(tet.points[0]) {
-            0
-        } else if !self.has_point(tet.points[1]) {
-            1
-        } else if !self.has_point(tet.points[2]) {
-            2
-        } else {
-            3
-        }
+        tet.points
+            .iter()
+            .position(|point| !self.has_point(*point))
+            .unwrap_or(3)
     }
 }
 
 /// Whether the point is one of the record's.
-pub(crate) fn has_point(tet: &TetRecord, point: u16) -> bool
+fn has_point(tet: &TetRecord, point: u16) -> bool
     ensures { result ≡ has point (tet_of tet.now) }
 {
-    point == tet.points[0]
-        || point == tet.points[1]
-        || point == tet.points[2]
-        || point == tet.points[3]
+    tet.points.contains(&point)
 }

@@ -1,72 +1,58 @@
 //! What adding asks of the hole that a site makes.
-ghost use Rattle.std.specs.Prelude.{◌≡◌, ◌≤◌, not, map, length, is_some};
+ghost use Rattle.std.specs.Prelude.{◌≡◌, ◌≤◌, length};
 ghost use Rattle.geometry.specs.Points.{spot};
 ghost use Rattle.mesh.specs.Spaces.{conflicting};
-ghost use Rattle.survey.specs.Cavity.{Flagged, Placed, face_number};
-ghost use Rattle.survey.specs.Stay.{Failing, PointsBelow, remains};
-ghost use Rattle.mesh.specs.Records.{every};
-ghost use Rattle.survey.specs.Conflicts.{Named, Numbered as Under};
 ghost use Rattle.survey.specs.Holes.{HoleAsked};
-ghost use Rattle.survey.specs.Tables.{AllInLimits, spot_of};
+ghost use Rattle.survey.specs.Views.{count, spots_in};
 
-use crate::cavity::edges::edges_closed;
-use crate::cavity::number::{Totals, number};
-use crate::cavity::shell::{ShellFace, collect_shell};
-use crate::cavity::stay::vanishing_point;
+use crate::cavity::Cavity;
+use crate::cavity::plan::Plan;
+use crate::cavity::shell::Shell;
+use crate::cavity::shell_face::ShellFace;
 use crate::conflict::mark_conflicts;
-use crate::record::PointRecord;
 use crate::refusal::Refusal;
+use crate::whole::Whole;
 use geometry::measure::Measure;
 use geometry::point::Point;
-use mesh::record::TetRecord;
 
-/// Questions 7 to 10 of adding, in their order. The flags tell then which records are dropped, the
-/// numbers where records go, and the front of `shell` holds the shell faces.
-pub(crate) fn ask_hole<M: Measure>(
+/// Questions 7 to 10 of adding, in their order; and when every answer is yes, the plan of the add,
+/// over the flags, the numbers and the shell faces that are written to the lent arrays.
+// Three arrays and no struct of them: the checker does not lend one of its fields on while another is lent. Flags and
+// numbers stand apart, since the flags are told before any number is.
+pub(crate) fn plan_hole<'t, 's, M: Measure>(
     measure: &M,
-    points: &[PointRecord],
-    used: &[TetRecord],
+    whole: &Whole<'t>,
     room: usize,
     site: &Point,
-    dropped: &mut [bool],
-    numbers: &mut [u16],
-    shell: &mut [ShellFace],
-) -> Result<Totals, Refusal>
-    requires points { AllInLimits points.now × (length points.now ≤ 1024) }
-    requires tets { Under (length points.now) used.now × Named used.now × (length used.now ≤ 16384) }
-    requires arrays { (length dropped.old ≡ length used.now) × (length used.now ≤ length numbers.old) × (room ≤ length shell.old) }
-    ensures flagged { Flagged (conflicting (map spot_of points.now) (M.Measure.lifts measure.now) (spot site.now)) used.now dropped.new }
-    ensures asked { HoleAsked used.now dropped.new numbers.new shell.new (length points.now) room result }
+    dropped: &'s mut [bool],
+    numbers: &'s mut [u16],
+    shell: &'s mut [ShellFace],
+) -> Result<Plan<'t, 's>, Refusal>
+    requires room { (length whole.now.tets.now ≤ room) × (room ≤ 16384) × (room ≤ length shell.old) }
+    requires arrays { (length dropped.old ≡ length whole.now.tets.now) × (length whole.now.tets.now ≤ length numbers.old) }
+    ensures { HoleAsked (conflicting (spots_in whole.now.points) (M.Measure.lifts measure.now) (spot site.now)) whole.now.tets.now (count whole.now.points) room result }
 {
-    if !mark_conflicts(measure, points, used, site, dropped) {
+    if !mark_conflicts(measure, whole, site, dropped) {
         return Err(Refusal::NoConflict);
     }
-    let totals = number(used, dropped, numbers);
+    let used = whole.tets;
+    let cavity = Cavity { used, dropped };
+    let totals = cavity.number(numbers);
     if used.len() + totals.shell > room {
         return Err(Refusal::TetsFull);
     }
-    collect_shell(used, dropped, shell);
-    let count = totals.shell;
-    let faces = &shell[0..count];
-    if !edges_closed(used, faces) {
+    let count = cavity.collect_shell(shell);
+    let faces = &shell[..count];
+    let shell = Shell { cavity, faces };
+    if !shell.edges_closed() {
         return Err(Refusal::ShellOpen);
     }
-    match lost_point(used, dropped, faces, points.len()) {
+    match shell.vanishing_point(whole.points.len()) {
         Some(point) => Err(Refusal::Vanishes(point)),
-        None => Ok(totals),
+        None => Ok(Plan {
+            shell,
+            numbers,
+            kept: totals.kept,
+        }),
     }
-}
-
-/// A point that would belong to no tetrahedron, if there is one.
-fn lost_point(
-    used: &[TetRecord],
-    dropped: &[bool],
-    shell: &[ShellFace],
-    points: usize,
-) -> Option<u16>
-    requires { (length dropped.now ≡ length used.now) × ((Placed used.now shell.now) × ((PointsBelow points used.now) × (points ≤ 1024))) }
-    ensures point { Failing (remains used.now dropped.now (map face_number shell.now)) points result }
-    ensures test { is_some result ≡ not (every (remains used.now dropped.now (map face_number shell.now)) points) }
-{
-    vanishing_point(used, dropped, shell, points)
 }

@@ -1,10 +1,11 @@
 //! What a site's coordinates and penalty may be.
 ghost use Rattle.std.specs.Prelude.{◌≡◌, Decides};
 ghost use Rattle.geometry.specs.Limits.{Light};
-ghost use Rattle.geometry.specs.Spots.{bare};
 ghost use Rattle.mesh.specs.Surveys.{OnGrid};
 ghost use Rattle.survey.specs.Places.{light, on_grid, ranged};
+ghost use Rattle.survey.specs.Sites.{place_spot};
 
+use crate::site::Place;
 use geometry::point::HEAVIEST;
 
 /// The smallest coordinate of a site, in decimetres.
@@ -17,15 +18,15 @@ const FARTHEST: u16 = 800;
 fn in_range(coordinate: u16) -> bool
     ensures { result ≡ ranged coordinate }
 {
-    NEAREST <= coordinate && coordinate <= FARTHEST
+    (NEAREST..=FARTHEST).contains(&coordinate)
 }
 
 /// Whether each coordinate is from 1 to 800.
-pub(crate) fn is_on_grid(x: u16, y: u16, z: u16) -> bool
-    ensures is { result ≡ on_grid x y z }
-    ensures tells { Decides result (OnGrid (bare x y z)) }
+pub(crate) fn is_on_grid(place: Place) -> bool
+    ensures is { result ≡ on_grid place.x place.y place.z }
+    ensures tells { Decides result (OnGrid (place_spot place)) }
 {
-    in_range(x) && in_range(y) && in_range(z)
+    in_range(place.x) && in_range(place.y) && in_range(place.z)
 }
 
 /// Whether the penalty is at most 1,000,000.

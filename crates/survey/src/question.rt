@@ -1,37 +1,32 @@
 //! What adding asks before it looks for the hole that the site makes.
-ghost use Rattle.std.specs.Prelude.{◌≡◌};
-ghost use Rattle.survey.specs.Questions.{SiteAsked, site_questions};
+ghost use Rattle.std.specs.Prelude.{length};
+ghost use Rattle.survey.specs.Questions.{SiteAsked};
+ghost use Rattle.survey.specs.Sites.{site_spot};
 
 use crate::counts::Counts;
 use crate::place::{is_light, is_on_grid};
-use crate::record::PointRecord;
 use crate::refusal::Refusal;
-use crate::search::site_at;
-use crate::wholeness::is_whole;
+use crate::search::is_taken;
+use crate::site::{Place, Site};
+use crate::tables::TablesRef;
+use crate::whole::Whole;
 use geometry::point::Point;
-use mesh::record::TetRecord;
 
-/// The first six questions of adding, in their order, and the point of the site.
-pub(crate) fn ask_site(
+/// The first six questions of adding, in their order; and when every answer is yes, the used records and
+/// the point of the site.
+pub(crate) fn ask_site<'a, R>(
     counts: &Counts,
-    points: &[PointRecord],
-    readings: usize,
-    tets: &[TetRecord],
-    x: u16,
-    y: u16,
-    z: u16,
-    penalty: u32,
+    tables: &TablesRef<'a, R>,
+    site: Site,
     admitted: bool,
-) -> Result<Point, Refusal>
-    ensures { SiteAsked (site_questions counts.now points.now readings tets.now (record { x = x; y = y; z = z; penalty = penalty }) admitted) (record { x = x; y = y; z = z; penalty = penalty }) result }
+) -> Result<(Whole<'a>, Point), Refusal>
+    ensures { SiteAsked counts.now tables.now.points.now (length tables.now.readings.now) tables.now.tets.now (site_spot site) admitted result }
 {
-    if !is_whole(counts, points, readings, tets) {
-        return Err(Refusal::NotWhole);
-    }
-    if !is_on_grid(x, y, z) {
+    let whole = Whole::of(counts, tables)?;
+    if !is_on_grid(site.place) {
         return Err(Refusal::OffGrid);
     }
-    if !is_light(penalty) {
+    if !is_light(site.penalty) {
         return Err(Refusal::Penalty);
     }
     if !admitted {
@@ -40,11 +35,9 @@ pub(crate) fn ask_site(
     if counts.points >= counts.point_records {
         return Err(Refusal::PointsFull);
     }
-    if site_at(&points[0..counts.points], x, y, z).is_some() {
+    if is_taken(whole.points.records, site.place) {
         return Err(Refusal::PlaceTaken);
     }
-    match Point::new(x, y, z, penalty) {
-        Some(point) => Ok(point),
-        None => unreachable(),
-    }
+    let Place { x, y, z } = site.place;
+    Ok((whole, Point::new(x, y, z, site.penalty).unwrap()))
 }

@@ -2,6 +2,8 @@
 use crate::counts::Counts;
 
 /// A sealed survey: nothing can be added any more.
+// The same fields as an open one, in a type of its own and not by a parameter: the two states share no call, and a
+// program that adds to a sealed survey is refused with a plain message.
 #[derive(Drop)]
 pub struct Sealed<M, G> {
     pub(crate) counts: Counts,

@@ -1,24 +1,16 @@
 //! Whether a site has a place already.
-ghost use Rattle.std.specs.Prelude.{◌≡◌, not, is_some};
-ghost use Rattle.survey.specs.Searches.{SiteAt, same_place, untaken};
+ghost use Rattle.std.specs.Prelude.{◌≡◌};
+ghost use Rattle.survey.specs.Searches.{taken};
 
 use crate::record::PointRecord;
+use crate::site::{FIRST_SITE, Place};
 
-/// The number of the first site that has this place, among the used points.
-pub(crate) fn site_at(points: &[PointRecord], x: u16, y: u16, z: u16) -> Option<usize>
-    ensures first { SiteAt points.now x y z result }
-    ensures test { is_some result ≡ not (untaken points.now x y z) }
+/// Whether one of the sites among the used points has this place.
+pub(crate) fn is_taken(points: &[PointRecord], place: Place) -> bool
+    ensures { result ≡ taken points.now place.x place.y place.z }
 {
-    for number in 4..points.len() {
-        if is_at(&points[number], x, y, z) {
-            return Some(number);
-        }
-    }
-    None
-}
-
-fn is_at(point: &PointRecord, x: u16, y: u16, z: u16) -> bool
-    ensures { result ≡ same_place x y z point.now }
-{
-    point.x == x && point.y == y && point.z == z
+    points
+        .iter()
+        .skip(FIRST_SITE as usize)
+        .any(|point| point.place() == place)
 }

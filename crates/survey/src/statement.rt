@@ -2,7 +2,7 @@
 
 /// A line: how many tetrahedra of one class there are, and their Sides added up.
 #[repr(C)]
-#[derive(Clone, Copy, Debug, PartialEq, Eq)]
+#[derive(Clone, Copy, Debug, PartialEq, Eq, Default)]
 pub struct Line {
     pub tetrahedra: u32,
     pub units: i64,
@@ -11,7 +11,7 @@ pub struct Line {
 /// A line for each of the eight classes, and the margin, which is the Sides of the tetrahedra with a
 /// corner added up.
 #[repr(C)]
-#[derive(Clone, Copy, Debug)]
+#[derive(Clone, Copy, Debug, PartialEq, Eq, Default)]
 pub struct Statement {
     pub lines: [Line; 8],
     pub margin: i64,

@@ -1,19 +1,16 @@
 -- The reader's steps find what the rules say stands at a word, and nothing else does. Assumes nothing.
-use Rattle.std.proofs.Common.{◌≡◌, ℕ, ◌+◌, ◌-◌, ◌*◌, ◌<◌, ◌≤◌, Bool, true, false, cond, ◌&&◌, eqb, leb, List, length, take, drop, Some, None, Ok, Err, Option, Result, sym, refl, ap, ◌∙◌, subst, arith, length-drop}
-use Rattle.std.proofs.lemmas.List.{take_all}
-use Rattle.std.proofs.lemmas.Bool.{and_from, and_parts, cond-false, cond-true, eq-eqb, eqb-true, leb-true, ltb-true}
+use Rattle.std.proofs.Common.{◌≡◌, ℕ, ◌+◌, ◌*◌, ◌<◌, ◌≤◌, Bool, true, false, cond, ◌&&◌, eqb, leb, List, length, take, Some, None, Ok, Err, Option, Result, sym, refl, ap, ◌∙◌, subst, arith, length-drop}
+use Rattle.std.proofs.lemmas.Bool.{and_from, and_parts, false≢true, cond-false, cond-true, eq-eqb, eqb-true, leb-true, ltb-true}
+use Rattle.std.proofs.lemmas.Option.{cond_some}
+use Rattle.std.specs.List.{list_all}
 use Rattle.words.specs.declared.fault.Fault.{Fault}
 use Rattle.words.specs.declared.word.Word.{Word}
 use Rattle.words.specs.Fault.{misplaced, malformed_label, unknown_reading, wrong_end}
-use Rattle.words.specs.Label.{between, every, label_words, well_formed}
+use Rattle.words.specs.Label.{between, label_words, well_formed}
 use Rattle.words.specs.Look.{Found, found, due, known, reading_at, complete, site_from}
 use Rattle.words.specs.Token
-use Rattle.words.specs.Token.{Entry, EntryAt, FaultAt, after, begins, follows_site, follows_penalty, sites_in}
+use Rattle.words.specs.Token.{Entry, EntryAt, FaultAt, after, begins, follows_site, follows_penalty, site_of, sites_in}
 use Rattle.words.specs.Word.{word_at, words}
-
--- the rest of a slice from i on
-pub rest_is : (b : List ℕ) (i : ℕ) → take (length b - i) (drop i b) ≡ drop i b
-rest_is b i = take_all (length b - i) (drop i b) (omega (arith, length-drop i b))
 
 -- ---- what is found stands there
 
@@ -90,19 +87,15 @@ module _ {R : Type 0} (decode : ℕ → ℕ → Option R) (b : List ℕ) (w n : 
 
 -- ---- an entry lies in the file
 
-some_since : {X : Type 0} (t : Bool) (y x : X) → cond t (Some y) None ≡ Some x → t ≡ true
-some_since true y x e = refl
-some_since false y x e = let z : ◌≡◌ {A = ℕ} 0 1 = cc in absurd (omega arith)
-
 inside : (b : List ℕ) (w : ℕ) (x : Word) → word_at b w ≡ Some x → w < words b
-inside b w x e = ltb-true w (words b) (some_since _ _ x e)
+inside b w x e = ltb-true w (words b) (cond_some _ _ x e).0
 
 label_inside : (b : List ℕ) (w k : ℕ) → w < words b → well_formed (after b w) k ≡ true → w + 1 + label_words k ≤ words b
 label_inside b w k h wf =
     let bytes = after b w in
     let sized = leb 1 k && leb k 12 in
     let there = leb (4 * label_words k) (length bytes) in
-    let text = every (between 32 126) (take k bytes) in
+    let text = list_all (between 32 126) (take k bytes) in
     let full = (and_parts (sized && there) text (and_parts (sized && there && text) _ wf).0).0 in
     omega (arith, leb-true _ _ (and_parts sized there full).1, length-drop (4 * (w + 1)) b)
 
@@ -131,23 +124,20 @@ found_fault {R} decode b w n f same = subst (λ (g : Found R). Stands decode b w
 
 -- ---- what stands there is found
 
-never : false ≡ true → ⊥
-never e = subst (λ (t : Bool). cond t ⊥ (Unit {0})) e tt
-
 module _ {R : Type 0} (decode : ℕ → ℕ → Option R) (b : List ℕ) (w n : ℕ) where
   found_no_entry : (first : Option Word) → begins first ≡ false → found decode b w n first ≡ Err (misplaced w)
   found_no_entry None h = refl
-  found_no_entry (Some (Word.Site _ _ _)) h = absurd (never (sym h))
+  found_no_entry (Some (Word.Site _ _ _)) h = absurd (false≢true (sym h))
   found_no_entry (Some (Word.Penalty _)) h = refl
   found_no_entry (Some (Word.Reading _ _)) h = refl
-  found_no_entry (Some (Word.Label _)) h = absurd (never (sym h))
-  found_no_entry (Some (Word.End _)) h = absurd (never (sym h))
+  found_no_entry (Some (Word.Label _)) h = absurd (false≢true (sym h))
+  found_no_entry (Some (Word.End _)) h = absurd (false≢true (sym h))
 
   due_none : (second : Option Word) → follows_site second ≡ false → due w second ≡ (0, w + 1)
   due_none None h = refl
   due_none (Some (Word.Site _ _ _)) h = refl
-  due_none (Some (Word.Penalty _)) h = absurd (never (sym h))
-  due_none (Some (Word.Reading _ _)) h = absurd (never (sym h))
+  due_none (Some (Word.Penalty _)) h = absurd (false≢true (sym h))
+  due_none (Some (Word.Reading _ _)) h = absurd (false≢true (sym h))
   due_none (Some (Word.Label _)) h = refl
   due_none (Some (Word.End _)) h = refl
 
@@ -155,7 +145,7 @@ module _ {R : Type 0} (decode : ℕ → ℕ → Option R) (b : List ℕ) (w n : 
   no_reading_at v None h = refl
   no_reading_at v (Some (Word.Site _ _ _)) h = refl
   no_reading_at v (Some (Word.Penalty _)) h = refl
-  no_reading_at v (Some (Word.Reading _ _)) h = absurd (never (sym h))
+  no_reading_at v (Some (Word.Reading _ _)) h = absurd (false≢true (sym h))
   no_reading_at v (Some (Word.Label _)) h = refl
   no_reading_at v (Some (Word.End _)) h = refl
 
@@ -182,10 +172,10 @@ module _ {R : Type 0} (decode : ℕ → ℕ → Option R) (b : List ℕ) (w n : 
   entry_found _ _ (Token.a_label k h wf) = ap (found decode b w n) h ∙ cond-true _ _ _ wf
   entry_found _ _ (Token.a_site x y z tag value r h i d) =
       site_found x y z 0 (w + 1) (Ok r) h (ap (due w) i) (read_as (w + 1) tag value (Some r) i d)
-      ∙ ap (λ (v : ℕ). Ok (Token.site (record { word = w; x = x; y = y; z = z; penalty = 0; reading = r }), v)) (omega arith)
+      ∙ ap (λ (v : ℕ). Ok (Token.site (site_of w x y z 0 r), v)) (omega arith)
   entry_found _ _ (Token.a_weighted_site x y z p tag value r h i j d) =
       site_found x y z p (w + 2) (Ok r) h (ap (due w) i) (read_as (w + 2) tag value (Some r) j d)
-      ∙ ap (λ (v : ℕ). Ok (Token.site (record { word = w; x = x; y = y; z = z; penalty = p; reading = r }), v)) (omega arith)
+      ∙ ap (λ (v : ℕ). Ok (Token.site (site_of w x y z p r), v)) (omega arith)
   entry_found _ _ (Token.the_end h last) =
       ap (found decode b w n) h ∙ cond-true _ _ _ (and_from _ _ (eq-eqb (w + 1) (words b) last) (eq-eqb n n refl))
 

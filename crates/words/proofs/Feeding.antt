@@ -1,5 +1,6 @@
 -- Feeding a survey, one token more at a time. Assumes nothing.
 use Rattle.std.proofs.Common.{◌≡◌, ℕ, ◌+◌, Bool, true, false, List, [], ◌∷◌, map, length, Some, None, Ok, Err, Option, sym, refl, ap, ◌∙◌, subst, arith}
+use Rattle.std.proofs.lemmas.Bool.{false≢true}
 use Rattle.geometry.specs.Lifts.{Lift}
 use Rattle.geometry.specs.Spots.{Spot}
 use Rattle.survey.specs.declared.refusal.Refusal.{Refusal as Refused}
@@ -9,13 +10,14 @@ use Rattle.words.specs.declared.token.Site.{Site}
 use Rattle.words.specs.declared.token.Token.{Token}
 use Rattle.words.specs.Contents
 use Rattle.words.specs.Contents.{Ending, Reads, complete, refused, label_after}
-use Rattle.words.specs.Fault.{wrong_length}
+use Rattle.words.specs.Fault.{refused_site, wrong_length}
 use Rattle.words.specs.Feed
-use Rattle.words.specs.Feed.{Added, Addition, Adds, Fed, FedBy, Feeds, MeansAdds, Store, addition, all_accepted, at_site, brought, from_file, refusal_at, site_spot, sites_of}
+use Rattle.words.specs.Feed.{Added, Addition, Adds, Fed, FedBy, Feeds, MeansAdds, Store, addition, all_accepted, at_site, brought, from_file, site_spot, sites_of}
 use Rattle.words.specs.Reader.{Ended, Moved, Next, Stopped, file, well_sized}
 use Rattle.words.specs.Reader as Reading
 use Rattle.words.specs.Token.{Entry, EntryAt, FaultAt, entry, label, site, end}
-use Rattle.words.proofs.Files.{ends, never, next_moved}
+use Rattle.words.proofs.Entries.{Advances, advances}
+use Rattle.words.proofs.Files.{ends, next_moved}
 
 -- the token is no site
 abbrev pub NoSite : {R : Type 0} → Token R → Type 0
@@ -39,7 +41,7 @@ module _ {R : Type 0} (L : Lift) (admits : R → Bool) (decode : ℕ → ℕ →
   reads_adds w n l s t _ z (Feed.accept _ _ _ _ m _ adds _ q k v h a f) ok =
       let rest = reads_adds v (n + 1) l m t adds z f ok in
       (site q ∷ rest.0, Contents.more w n l (site q) v rest.0 z h refl rest.1, ap (λ (us : List (Spot × R)). (site_spot q, q.reading) ∷ us) rest.2)
-  reads_adds w n l s t _ _ (Feed.refuse _ _ _ _ _ q e v h a) ok = absurd (never ok)
+  reads_adds w n l s t _ _ (Feed.refuse _ _ _ _ _ q e v h a) ok = absurd (false≢true ok)
   reads_adds w n l s _ _ _ (Feed.last _ _ _ _ v h) ok = (end n ∷ [], Contents.last w n v l h, refl)
   reads_adds w n l s _ _ _ (Feed.stop _ _ _ _ f h) ok = ([], Contents.stop w n l f h, refl)
 
@@ -97,9 +99,9 @@ module _ {R : Type 0} (L : Lift) (admits : R → Bool) (decode : ℕ → ℕ →
     sized_by v t m = sized_too true m.sized
 
     pub fed_refused : (v : Reader) (q : Site R) → Moved decode r (Token.Site q) v → (t : Store R) (e : Refused) → Adds L admits s (addition q (Err e)) t
-        → FedBy L admits decode b o t (refused (refusal_at e q.word) l)
+        → FedBy L admits decode b o t (refused (refused_site e q.word) l)
     fed_refused v q m t e a =
-        by_word (sized_by v (Token.Site q) m) m.going t (refused (refusal_at e q.word) l)
+        by_word (sized_by v (Token.Site q) m) m.going t (refused (refused_site e q.word) l)
         (addition q (Err e) ∷ [], Feed.refuse r.word r.sites l s t q e v.word (entry_here v (Token.Site q) m) a)
 
     pub after_site : (v : Reader) (q : Site R) → Moved decode r (Token.Site q) v → file v ≡ file r → (t : Store R) (n : ℕ) → Adds L admits s (addition q (Ok n)) t
@@ -107,14 +109,14 @@ module _ {R : Type 0} (L : Lift) (admits : R → Bool) (decode : ℕ → ℕ →
     after_site v q m same t n a =
         record {
           bytes = same ∙ h.bytes;
-          unsized = λ u. absurd (never (sym u ∙ sized_by v (Token.Site q) m));
+          unsized = λ u. absurd (false≢true (sym u ∙ sized_by v (Token.Site q) m));
           going = λ _ u z k.
               h.going m.going u z (
                 addition q (Ok n) ∷ k.0,
                 Feed.accept r.word r.sites l s t u k.0 z q n v.word (entry_here v (Token.Site q) m) a
                     (subst (λ (i : ℕ). Feeds L admits decode b v.word i l t u k.0 z) m.sites k.1),
               );
-          done = λ off. absurd (never (sym m.ended ∙ off));
+          done = λ off. absurd (false≢true (sym m.ended ∙ off));
         }
 
     pub after_other : (v : Reader) (t : Token R) → NoSite t → Moved decode r t v → file v ≡ file r → Progress o v (label_after l (entry t)) s
@@ -123,22 +125,22 @@ module _ {R : Type 0} (L : Lift) (admits : R → Bool) (decode : ℕ → ℕ →
         let sites : v.sites ≡ r.sites = m.sites ∙ omega arith in
         record {
           bytes = same ∙ h.bytes;
-          unsized = λ u. absurd (never (sym u ∙ sized_by v (Token.Label w text) m));
+          unsized = λ u. absurd (false≢true (sym u ∙ sized_by v (Token.Label w text) m));
           going = λ _ u z k.
               h.going m.going u z (
                 k.0,
                 Feed.pass r.word r.sites l s u k.0 z w text.now v.word (entry_here v (Token.Label w text) m)
                     (subst (λ (i : ℕ). Feeds L admits decode b v.word i (Some text.now) s u k.0 z) sites k.1),
               );
-          done = λ off. absurd (never (sym m.ended ∙ off));
+          done = λ off. absurd (false≢true (sym m.ended ∙ off));
         }
     after_other v (Token.End n) none m same =
         let stands = entry_here v (Token.End n) m in
         let last = ends decode b r.word r.sites v.word (end n) stands refl in
         record {
           bytes = same ∙ h.bytes;
-          unsized = λ u. absurd (never (sym u ∙ sized_by v (Token.End n) m));
-          going = λ on _ _ _. absurd (never (sym on ∙ m.ended));
+          unsized = λ u. absurd (false≢true (sym u ∙ sized_by v (Token.End n) m));
+          going = λ on _ _ _. absurd (false≢true (sym on ∙ m.ended));
           done = λ _.
               h.going m.going s complete
               ([], Feed.last r.word r.sites l s v.word (subst (λ (e : Entry R). EntryAt decode b r.word r.sites e v.word) last stands));
@@ -156,6 +158,11 @@ module _ {R G : Type 0} (decodes : G → ℕ → ℕ → Option R) (x y : G) (sa
   pub stopped_by : (f : Fault) → Next (decodes x) r (Err f) v → Stopped (decodes y) r f
   stopped_by f h = subst (λ (k : G). Stopped (decodes k) r f) same h.0
 
+-- a token takes the reader on
+pub advances_by : {R G : Type 0} (decodes : G → ℕ → ℕ → Option R) (x : G) (r v : Reader) (o : Option (Token R)) (t : Token R) → Next (decodes x) r (Ok o) v → o ≡ Some t
+    → Advances (file r) r.word v.word
+advances_by decodes x r v o t h e = let m = next_moved (decodes x) r v o t h e in advances (decodes x) (file r) r.word r.sites (entry t) v.word m.read
+
 -- ---- the survey's answer, by the file's fault
 
 module _ {R M G : Type 0} (lifts : M → Lift) (admits : G → R → Bool) (m k : M) (x y : G) (s : Store R) (q : Site R) (t : Store R) where
@@ -169,7 +176,7 @@ module _ {R M G : Type 0} (lifts : M → Lift) (admits : G → R → Bool) (m k 
   accepted_by e f n (Err d, h, told) = let z : ◌≡◌ {A = ℕ} 0 1 = cc in absurd (omega arith)
 
   pub refused_by : m ≡ k → x ≡ y → (f : Fault) → Added (lifts m) (admits x) s q t (Err f)
-      → (d : Refused) × Adds (lifts k) (admits y) s (addition q (Err d)) t × (f ≡ refusal_at d q.word)
+      → (d : Refused) × Adds (lifts k) (admits y) s (addition q (Err d)) t × (f ≡ refused_site d q.word)
   refused_by e g f (Ok i, h, told) = let z : ◌≡◌ {A = ℕ} 0 1 = cc in absurd (omega arith)
   refused_by e g f (Err d, h, told) = (d, kept e g (addition q (Err d)) h, (cc))
 

@@ -1,5 +1,6 @@
 -- What a whole file means: the reader's tokens are its entries, and it has no other meaning. Assumes nothing.
-use Rattle.std.proofs.Common.{◌≡◌, ℕ, ◌+◌, Bool, true, false, cond, List, [], ◌∷◌, ◌++◌, length, Some, None, Ok, Err, Option, sym, refl, ap, ◌∙◌, subst, append_assoc, append-nil}
+use Rattle.std.proofs.Common.{◌≡◌, ℕ, ◌+◌, true, false, List, [], ◌∷◌, ◌++◌, length, Some, None, Ok, Err, Option, sym, refl, ap, ◌∙◌, subst, append_assoc, append-nil}
+use Rattle.std.proofs.lemmas.Bool.{false≢true}
 use Rattle.words.specs.declared.fault.Fault.{Fault}
 use Rattle.words.specs.declared.reader.Reader.{Reader}
 use Rattle.words.specs.declared.token.Token.{Token}
@@ -12,9 +13,6 @@ use Rattle.words.specs.Reader as Reading
 use Rattle.words.specs.Token.{Entry, EntryAt, FaultAt, entry, is_end, sites_in}
 use Rattle.words.specs.Token as Entries
 use Rattle.words.proofs.Entries.{entry_found, fault_found}
-
-pub never : false ≡ true → ⊥
-never e = subst (λ (t : Bool). cond t ⊥ (Unit {0})) e tt
 
 module _ {R : Type 0} (decode : ℕ → ℕ → Option R) (b : List ℕ) where
   -- ---- the reader so far
@@ -32,14 +30,14 @@ module _ {R : Type 0} (decode : ℕ → ℕ → Option R) (b : List ℕ) where
         bytes = same;
         unsized = λ _. (refl, refl);
         going = λ _ fs z h. subst (λ (k : ℕ). Reads decode b 0 k None fs z) n (subst (λ (k : ℕ). Reads decode b k r.sites None fs z) w h);
-        done = λ h. absurd (never (sym e ∙ h));
+        done = λ h. absurd (false≢true (sym e ∙ h));
       }
 
   -- only the end word ends a file
   pub ends : (w n v : ℕ) (e : Entry R) → EntryAt decode b w n e v → is_end e ≡ true → e ≡ Entries.end n
-  ends w n _ _ (Entries.a_label k h wf) t = absurd (never t)
-  ends w n _ _ (Entries.a_site x y z tag value r h i d) t = absurd (never t)
-  ends w n _ _ (Entries.a_weighted_site x y z p tag value r h i j d) t = absurd (never t)
+  ends w n _ _ (Entries.a_label k h wf) t = absurd (false≢true t)
+  ends w n _ _ (Entries.a_site x y z tag value r h i d) t = absurd (false≢true t)
+  ends w n _ _ (Entries.a_weighted_site x y z p tag value r h i j d) t = absurd (false≢true t)
   ends w n _ _ (Entries.the_end h last) t = refl
 
   one_more : (r s : Reader) (t : Token R) (es : List (Entry R)) (l : Option (List ℕ))
@@ -49,7 +47,7 @@ module _ {R : Type 0} (decode : ℕ → ℕ → Option R) (b : List ℕ) where
       let here : EntryAt decode b r.word r.sites e s.word = subst (λ (f : List ℕ). EntryAt decode f r.word r.sites e s.word) h.bytes m.read in
       record {
         bytes = same ∙ h.bytes;
-        unsized = λ u. absurd (never (sym u ∙ ap (λ (f : List ℕ). well_sized (length f)) (sym h.bytes) ∙ m.sized));
+        unsized = λ u. absurd (false≢true (sym u ∙ ap (λ (f : List ℕ). well_sized (length f)) (sym h.bytes) ∙ m.sized));
         going = λ on fs z k.
             subst (λ (gs : List (Entry R)). Reads decode b 0 0 None gs z) (sym (append_assoc es (e ∷ []) fs))
             (h.going m.going (e ∷ fs) z
@@ -90,7 +88,7 @@ module _ {R : Type 0} (decode : ℕ → ℕ → Option R) (b : List ℕ) where
   both e f v u same = (ap (λ (p : Found R). elim p [ Ok q ↦ q.0 | Err g ↦ e ]) same, ap (λ (p : Found R). elim p [ Ok q ↦ q.1 | Err g ↦ v ]) same)
 
   apart : (e : Entry R) (v : ℕ) (f : Fault) → ◌≡◌ {A = Found R} (Ok (e, v)) (Err f) → ⊥
-  apart e v f same = never (sym (ap (λ (p : Found R). elim p [ Ok q ↦ true | Err g ↦ false ]) same))
+  apart e v f same = false≢true (sym (ap (λ (p : Found R). elim p [ Ok q ↦ true | Err g ↦ false ]) same))
 
   alike : (f g : Fault) → ◌≡◌ {A = Found R} (Err f) (Err g) → f ≡ g
   alike f g same = ap (λ (p : Found R). elim p [ Ok q ↦ f | Err h ↦ h ]) same
@@ -113,10 +111,10 @@ module _ {R : Type 0} (decode : ℕ → ℕ → Option R) (b : List ℕ) where
       let rest = same_reads v (n + sites_in e) (label_after l e) es fs z y k here in
       ((λ i. same.0 i ∷ rest.0 i), rest.1)
   same_reads w n l _ _ _ _ (Contents.more _ _ _ e v es z h t k) (Contents.last _ _ u _ i) =
-      absurd (never (sym t ∙ ap is_end (same_entry w n e (Entries.end n) v u h i).0))
+      absurd (false≢true (sym t ∙ ap is_end (same_entry w n e (Entries.end n) v u h i).0))
   same_reads w n l _ _ _ _ (Contents.more _ _ _ e v es z h t k) (Contents.stop _ _ _ f i) = absurd (no_fault w n e v f h i)
   same_reads w n l _ _ _ _ (Contents.last _ _ v _ h) (Contents.more _ _ _ f u fs y i s j) =
-      absurd (never (sym s ∙ ap is_end (same_entry w n f (Entries.end n) u v i h).0))
+      absurd (false≢true (sym s ∙ ap is_end (same_entry w n f (Entries.end n) u v i h).0))
   same_reads w n l _ _ _ _ (Contents.last _ _ v _ h) (Contents.last _ _ u _ i) = (refl, refl)
   same_reads w n l _ _ _ _ (Contents.last _ _ v _ h) (Contents.stop _ _ _ f i) = absurd (no_fault w n (Entries.end n) v f h i)
   same_reads w n l _ _ _ _ (Contents.stop _ _ _ g h) (Contents.more _ _ _ f u fs y i s j) = absurd (no_fault w n f u g i h)
@@ -125,8 +123,8 @@ module _ {R : Type 0} (decode : ℕ → ℕ → Option R) (b : List ℕ) where
 
   same_meaning : (es fs : List (Entry R)) (z y : Ending) → Means decode b es z → Means decode b fs y → (fs ≡ es) × (y ≡ z)
   same_meaning _ _ _ _ (Contents.unreadable u) (Contents.unreadable v) = (refl, refl)
-  same_meaning _ _ _ _ (Contents.unreadable u) (Contents.readable fs y s k) = absurd (never (sym u ∙ s))
-  same_meaning _ _ _ _ (Contents.readable es z s h) (Contents.unreadable v) = absurd (never (sym v ∙ s))
+  same_meaning _ _ _ _ (Contents.unreadable u) (Contents.readable fs y s k) = absurd (false≢true (sym u ∙ s))
+  same_meaning _ _ _ _ (Contents.readable es z s h) (Contents.unreadable v) = absurd (false≢true (sym v ∙ s))
   same_meaning _ _ _ _ (Contents.readable es z s h) (Contents.readable fs y t k) = same_reads 0 0 None es fs z y h k
 
   pinned : (es : List (Entry R)) (z : Ending) → Means decode b es z → Pinned decode b es z

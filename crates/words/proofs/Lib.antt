@@ -1,3 +1,4 @@
+pub mod Chunks
 pub mod Texts
 pub mod Entries
 pub mod Files

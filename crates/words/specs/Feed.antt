@@ -10,7 +10,7 @@ use Rattle.survey.specs.declared.record.PointRecord.{PointRecord}
 use Rattle.survey.specs.declared.refusal.Refusal.{Refusal as Refused}
 use Rattle.survey.specs.Adds.{AddsTo}
 use Rattle.survey.specs.Pasts.{Ran, add_told, opened}
-use Rattle.survey.specs.Refusals.{number_of}
+use Rattle.survey.specs.Sites.{site_spot as spot_of_site}
 use Rattle.survey.specs.Tables.{Lent}
 use Rattle.survey.specs.Upheld.{Kept}
 use Rattle.words.specs.declared.fault.Fault.{Fault}
@@ -33,6 +33,9 @@ pub record Store (R : Type 0) : Type 0 where
 abbrev pub store : {M G R : Type 0} → Open M G → Lent R → Store R
 store o t = record { counts = o.counts; points = t.points; readings = t.readings; tets = t.tets }
 
+abbrev pub lent : {R : Type 0} → Store R → Lent R
+lent s = record { points = s.points; readings = s.readings; tets = s.tets }
+
 -- an add as it was made: the spot and the reading that were brought, and the answer
 pub record Addition (R : Type 0) : Type 0 where
   pub spot : Spot
@@ -40,24 +43,20 @@ pub record Addition (R : Type 0) : Type 0 where
   pub answer : Result ℕ Refused
 
 abbrev pub site_spot : {R : Type 0} → Site R → Spot
-site_spot q = record { x = q.x; y = q.y; z = q.z; penalty = q.penalty }
+site_spot q = spot_of_site q.site
 
 -- the add of a site of the file
 abbrev pub addition : {R : Type 0} → Site R → Result ℕ Refused → Addition R
 addition q a = record { spot = site_spot q; reading = q.reading; answer = a }
 
--- the fault of a site that the survey refuses: its number, at the site word
-abbrev pub refusal_at : Refused → ℕ → Fault
-refusal_at e w = refused_site (number_of e) w
-
 abbrev pub at_site : Result ℕ Refused → ℕ → Result ℕ Fault
 at_site (Ok n) w = Ok n
-at_site (Err e) w = Err (refusal_at e w)
+at_site (Err e) w = Err (refused_site e w)
 
 -- given what the measure and the grading mean, the add takes the survey and its tables from s to t
 abbrev pub Adds : {R : Type 0} → Lift → (R → Bool) → Store R → Addition R → Store R → Type 0
 Adds L admits s a t =
-    AddsTo L admits s.counts s.points s.readings s.tets a.spot a.reading t.counts t.points t.readings t.tets a.answer
+    AddsTo L admits s.counts (lent s) a.spot a.reading t.counts (lent t) a.answer
 
 -- a site of the file was added, and the survey's answer told as the file's fault
 abbrev pub Added : {R : Type 0} → Lift → (R → Bool) → Store R → Site R → Store R → Result ℕ Fault → Type 0
@@ -98,7 +97,7 @@ module _ {R : Type 0} (L : Lift) (admits : R → Bool) (decode : ℕ → ℕ →
         → Feeds w n l s t (addition q (Ok k) ∷ adds) z
     refuse : (w n : ℕ) (l : Option (List ℕ)) (s t : Store R) (q : Site R) (e : Refused) (v : ℕ)
         → EntryAt decode b w n (site q) v → Adds L admits s (addition q (Err e)) t
-        → Feeds w n l s t (addition q (Err e) ∷ []) (refused (refusal_at e q.word) l)
+        → Feeds w n l s t (addition q (Err e) ∷ []) (refused (refused_site e q.word) l)
     last : (w n : ℕ) (l : Option (List ℕ)) (s : Store R) (v : ℕ) → EntryAt decode b w n (end n) v → Feeds w n l s s [] complete
     stop : (w n : ℕ) (l : Option (List ℕ)) (s : Store R) (f : Fault) → FaultAt decode b w n f → Feeds w n l s s [] (refused f l)
 
@@ -124,9 +123,6 @@ outcome (Ok _) = complete
 outcome (Err r) = refused r.fault (label_text r.label)
 
 -- ---- the past that feeding leaves
-
-abbrev pub lent : {R : Type 0} → Store R → Lent R
-lent s = record { points = s.points; readings = s.readings; tets = s.tets }
 
 -- some adds, the oldest first, behind a past, whose newest call is first
 abbrev pub after_adds : {R : Type 0} → List (Addition R) → List (Call R × Answer) → List (Call R × Answer)

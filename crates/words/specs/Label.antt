@@ -1,18 +1,15 @@
 -- The labels of a survey file. Assumes nothing.
-use Rattle.std.specs.Prelude.{◌≡◌, ℕ, ◌+◌, ◌-◌, ◌*◌, ◌/◌, Bool, true, false, ◌&&◌, List, [], ◌∷◌, length, take, drop, Some, None, Option, nat_le}
+use Rattle.std.specs.Prelude.{◌≡◌, ℕ, ◌+◌, ◌-◌, ◌*◌, ◌/◌, Bool, true, false, ◌&&◌, List, length, take, drop, Some, None, Option, nat_le}
 use Rattle.std.specs.Borrow.{Bor}
-
-abbrev pub every : (ℕ → Bool) → List ℕ → Bool
-every p [] = true
-every p (c ∷ cs) = p c && every p cs
+use Rattle.std.specs.List.{list_all}
 
 abbrev pub between : ℕ → ℕ → ℕ → Bool
 between low high c = nat_le low c && nat_le c high
 
 -- the bytes as a text, where each is a printable character
 abbrev pub Printable : List ℕ → Option (Bor (List ℕ)) → Type 0
-Printable bs (Some text) = (every (between 32 126) bs ≡ true) × (text.now ≡ bs)
-Printable bs None = every (between 32 126) bs ≡ false
+Printable bs (Some text) = (list_all (between 32 126) bs ≡ true) × (text.now ≡ bs)
+Printable bs None = list_all (between 32 126) bs ≡ false
 
 -- how many words the text of a label of n bytes takes
 abbrev pub label_words : ℕ → ℕ
@@ -25,7 +22,7 @@ padding rest n = take (4 * label_words n - n) (drop n rest)
 -- A label of n bytes at the front of `rest`: 1 to 12 bytes from 32 to 126 are all there, and zero bytes fill the last word.
 abbrev pub well_formed : List ℕ → ℕ → Bool
 well_formed rest n =
-    nat_le 1 n && nat_le n 12 && nat_le (4 * label_words n) (length rest) && every (between 32 126) (take n rest) && every (between 0 0) (padding rest n)
+    nat_le 1 n && nat_le n 12 && nat_le (4 * label_words n) (length rest) && list_all (between 32 126) (take n rest) && list_all (between 0 0) (padding rest n)
 
 -- the text, where the label is well formed
 abbrev pub LabelText : List ℕ → ℕ → Option (Bor (List ℕ)) → Type 0

@@ -5,7 +5,7 @@ use Rattle.words.specs.declared.token.Token.{Token}
 use Rattle.words.specs.declared.word.Word.{Word}
 use Rattle.words.specs.Fault.{misplaced, malformed_label, unknown_reading, wrong_end}
 use Rattle.words.specs.Label.{label_words, well_formed}
-use Rattle.words.specs.Token.{Entry, label, site, end, entry, after}
+use Rattle.words.specs.Token.{Entry, label, site, end, entry, after, site_of}
 use Rattle.words.specs.Word.{word_at, words}
 
 -- the penalty of the site at word w, and the word where its reading is due, by the word after the site word
@@ -37,7 +37,7 @@ Found R = Result (Entry R × ℕ) Fault
 
 -- the site, once its reading at word v is known
 abbrev pub complete : {R : Type 0} → (w x y z p v : ℕ) → Result R Fault → Found R
-complete w x y z p v (Ok r) = Ok (site (record { word = w; x = x; y = y; z = z; penalty = p; reading = r }), v + 1)
+complete w x y z p v (Ok r) = Ok (site (site_of w x y z p r), v + 1)
 complete w x y z p v (Err f) = Err f
 
 abbrev pub site_from : {R : Type 0} → (ℕ → ℕ → Option R) → List ℕ → (w x y z : ℕ) → ℕ × ℕ → Found R

@@ -34,6 +34,10 @@ is_end (end m) = true
 
 -- ---- what stands at word w, of n sites before it
 
+-- a site of the file, by its numbers
+abbrev pub site_of : {R : Type 0} → (w x y z p : ℕ) → R → Site R
+site_of w x y z p r = record { word = w; site = record { place = record { x = x; y = y; z = z }; penalty = p }; reading = r }
+
 -- the bytes after word w
 abbrev pub after : List ℕ → ℕ → List ℕ
 after b w = drop (4 * (w + 1)) b
@@ -45,10 +49,10 @@ pub data EntryAt {R : Type 0} (decode : ℕ → ℕ → Option R) (b : List ℕ)
       → EntryAt decode b w n (label w (take k (after b w))) (w + 1 + label_words k)
   a_site : (x y z tag value : ℕ) (r : R) → word_at b w ≡ Some (Word.Site x y z) → word_at b (w + 1) ≡ Some (Word.Reading tag value)
       → decode tag value ≡ Some r
-      → EntryAt decode b w n (site (record { word = w; x = x; y = y; z = z; penalty = 0; reading = r })) (w + 2)
+      → EntryAt decode b w n (site (site_of w x y z 0 r)) (w + 2)
   a_weighted_site : (x y z p tag value : ℕ) (r : R) → word_at b w ≡ Some (Word.Site x y z) → word_at b (w + 1) ≡ Some (Word.Penalty p)
       → word_at b (w + 2) ≡ Some (Word.Reading tag value) → decode tag value ≡ Some r
-      → EntryAt decode b w n (site (record { word = w; x = x; y = y; z = z; penalty = p; reading = r })) (w + 3)
+      → EntryAt decode b w n (site (site_of w x y z p r)) (w + 3)
   the_end : word_at b w ≡ Some (Word.End n) → w + 1 ≡ words b → EntryAt decode b w n (end n) (w + 1)
 
 -- the kinds that may begin an entry, follow a site word, and follow a penalty word; no word is none of them

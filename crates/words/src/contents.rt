@@ -25,26 +25,18 @@ pub fn read_contents<'a, G: Grading>(
 ) -> Result<Contents<'a, G::Reading>, AllocError>
     ensures { IfOk result (λ t. Pinned (G.Grading.decoded grading.now) bytes.now (map entry t.tokens.items) (ending t.refusal)) }
 {
-    let mut reader: Reader<'a> = Reader::new(bytes);
-    let mut tokens: Vec<Token<'a, G::Reading>> = Vec::new(heap);
-    let mut label: Option<&'a str> = None;
-    loop {
-        let next = match reader.next(grading) {
-            Ok(next) => next,
-            Err(fault) => return Ok(Contents {
-                tokens,
-                refusal: Some(Refusal { fault, label }),
-            }),
-        };
-        let Some(token) = next else {
-            return Ok(Contents {
-                tokens,
-                refusal: None,
-            });
-        };
-        label = token.label_after(label);
-        if tokens.push(token).is_err() {
-            return Err(AllocError);
+    let mut reader = Reader::new(bytes);
+    let mut tokens = Vec::new(heap);
+    let mut label = None;
+    let refusal = loop {
+        match reader.next(grading) {
+            Ok(Some(token)) => {
+                label = token.label_after(label);
+                tokens.push(token)?;
+            }
+            Ok(None) => break None,
+            Err(fault) => break Some(Refusal { fault, label }),
         }
-    }
+    };
+    Ok(Contents { tokens, refusal })
 }

@@ -1,6 +1,10 @@
 //! What is wrong with a survey file, and where.
-ghost use Rattle.std.specs.Prelude.{◌≡◌};
-ghost use Rattle.words.specs.Fault.{malformed_label, misplaced, refused_site, unknown_reading, wrong_end, wrong_length};
+ghost use Rattle.std.specs.Prelude.{◌≡◌, Some};
+ghost use Rattle.words.specs.Fault.{fault_words, layer_name, layer_of, number_of};
+
+use std::error::Error;
+use std::fmt;
+use survey::refusal::Refusal;
 
 /// The part of the software that found a fault.
 #[derive(Clone, Copy, Debug, PartialEq, Eq)]
@@ -10,81 +14,91 @@ pub enum Layer {
     Survey,
 }
 
+impl fmt::Display for Layer {
+    ghost output = { λ layer. Some (layer_name layer) };
+
+    fn fmt<W: fmt::Write>(&self, f: &mut fmt::Formatter<W>) -> fmt::Result {
+        match self {
+            Layer::Words => write!(f, "words"),
+            Layer::Grading => write!(f, "grading"),
+            Layer::Survey => write!(f, "survey"),
+        }
+    }
+}
+
+/// The rule that was broken. Each case has a number, by which the rules name it.
+#[derive(Clone, Copy, Debug, PartialEq, Eq)]
+pub enum Problem {
+    /// 20: the file's length is no multiple of 4 from 4 to 32,768.
+    WrongLength,
+    /// 21: a word of this kind may not come here, or the file stops here without its end word.
+    Misplaced,
+    /// 22: the label at this label word is not well formed or not complete.
+    MalformedLabel,
+    /// 23: the grading does not know this reading word.
+    UnknownReading,
+    /// 24: the end word is not the last word, or its count is not that of the sites.
+    WrongEnd,
+    /// The survey refused the site at this site word. The number is that of the survey's refusal.
+    Refused(Refusal),
+}
+
+impl Problem {
+    /// The fault of this kind at a word.
+    pub(crate) fn at(self, word: usize) -> Fault
+        ensures { result ≡ record { word = word; problem = self } }
+    {
+        Fault {
+            word,
+            problem: self,
+        }
+    }
+}
+
 /// The first thing wrong with a file. It goes up to the program as it is.
 #[derive(Clone, Copy, Debug, PartialEq, Eq)]
 pub struct Fault {
-    /// Which rule was broken: 20 to 24 here; a survey's refusals have numbers of their own.
-    pub number: u8,
     /// The word at fault, counted from 0 in the file.
     pub word: usize,
-    /// Who says so.
-    pub layer: Layer,
+    pub problem: Problem,
 }
 
 impl Fault {
-    /// The file's length is no multiple of 4 from 4 to 32,768.
-    pub(crate) fn wrong_length() -> Fault
-        ensures { result ≡ wrong_length }
+    /// The number by which the rules name what is wrong.
+    pub fn number(&self) -> u8
+        ensures { result ≡ number_of self.now.problem }
     {
-        Fault {
-            number: 20,
-            word: 0,
-            layer: Layer::Words,
+        match &self.problem {
+            Problem::WrongLength => 20,
+            Problem::Misplaced => 21,
+            Problem::MalformedLabel => 22,
+            Problem::UnknownReading => 23,
+            Problem::WrongEnd => 24,
+            Problem::Refused(refusal) => refusal.number(),
         }
     }
 
-    /// A word of this kind may not come here, or the file stops here without its end word.
-    pub(crate) fn misplaced(word: usize) -> Fault
-        ensures { result ≡ misplaced word }
+    /// Who says so.
+    pub fn layer(&self) -> Layer
+        ensures { result ≡ layer_of self.now.problem }
     {
-        Fault {
-            number: 21,
-            word,
-            layer: Layer::Words,
-        }
-    }
-
-    /// The label at this label word is not well formed or not complete.
-    pub(crate) fn malformed_label(word: usize) -> Fault
-        ensures { result ≡ malformed_label word }
-    {
-        Fault {
-            number: 22,
-            word,
-            layer: Layer::Words,
-        }
-    }
-
-    /// The grading does not know this reading word.
-    pub(crate) fn unknown_reading(word: usize) -> Fault
-        ensures { result ≡ unknown_reading word }
-    {
-        Fault {
-            number: 23,
-            word,
-            layer: Layer::Grading,
-        }
-    }
-
-    /// The end word is not the last word, or its count is not that of the sites.
-    pub(crate) fn wrong_end(word: usize) -> Fault
-        ensures { result ≡ wrong_end word }
-    {
-        Fault {
-            number: 24,
-            word,
-            layer: Layer::Words,
-        }
-    }
-
-    /// The survey refused the site at this site word, with this number.
-    pub(crate) fn refused_site(number: u8, word: usize) -> Fault
-        ensures { result ≡ refused_site number word }
-    {
-        Fault {
-            number,
-            word,
-            layer: Layer::Survey,
+        match self.problem {
+            Problem::UnknownReading => Layer::Grading,
+            Problem::Refused(_) => Layer::Survey,
+            _ => Layer::Words,
         }
     }
 }
+
+impl fmt::Display for Fault {
+    ghost output = { λ fault. Some (fault_words fault) };
+
+    fn fmt<W: fmt::Write>(&self, f: &mut fmt::Formatter<W>) -> fmt::Result {
+        let number = self.number();
+        let word = self.word;
+        let layer = self.layer();
+        write!(f, "refused {number} word {word} layer {layer}")
+    }
+}
+
+impl Error for Fault {}

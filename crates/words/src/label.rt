@@ -1,6 +1,7 @@
 //! Labels: short texts between the sites of a survey file.
 ghost use Rattle.std.specs.Prelude.{◌≡◌};
-ghost use Rattle.words.specs.Label.{LabelText, Printable, between, every};
+ghost use Rattle.std.specs.List.{list_all};
+ghost use Rattle.words.specs.Label.{LabelText, Printable, between};
 
 use std::str::from_utf8;
 
@@ -9,18 +10,15 @@ use std::str::from_utf8;
 pub fn label_text(rest: &[u8], length: u32) -> Option<&str>
     ensures { LabelText rest.now length result }
 {
-    if length < 1 || length > 12 {
+    if !(1..=12).contains(&length) {
         return None;
     }
     let end = length as usize;
-    let padded = (end + 3) / 4 * 4;
-    if padded > rest.len() {
+    let padding = rest.get(end..end.next_multiple_of(4))?;
+    if !all_between(padding, 0, 0) {
         return None;
     }
-    if !all_between(&rest[end..padded], 0, 0) {
-        return None;
-    }
-    printable(&rest[0..end])
+    printable(&rest[..end])
 }
 
 /// The bytes as text, if each is a printable ASCII character.
@@ -36,12 +34,7 @@ fn printable(bytes: &[u8]) -> Option<&str>
 
 /// Whether every byte is from `low` to `high`.
 fn all_between(bytes: &[u8], low: u8, high: u8) -> bool
-    ensures { result ≡ every (between low high) bytes.now }
+    ensures { result ≡ list_all (between low high) bytes.now }
 {
-    for byte in bytes {
-        if *byte < low || *byte > high {
-            return false;
-        }
-    }
-    true
+    bytes.iter().all(|byte| (low..=high).contains(byte))
 }

@@ -1,9 +1,11 @@
 //! Why a survey file was refused, for whoever has to mend it.
-ghost use Rattle.std.specs.Prelude.{◌≡◌, IfOk, string_bytes};
-ghost use Rattle.words.specs.Refusal.{layer_name, refusal_line};
+ghost use Rattle.std.specs.Prelude.{Some};
+ghost use Rattle.words.specs.Contents.{label_text};
+ghost use Rattle.words.specs.Refusal.{refusal_words};
 
-use crate::fault::{Fault, Layer};
-use std::alloc::{AllocError, Global};
+use crate::fault::Fault;
+use std::error::Error;
+use std::fmt;
 
 /// The first fault of a file and the last label that was accepted before it.
 #[derive(Clone, Copy, Debug)]
@@ -12,25 +14,14 @@ pub struct Refusal<'a> {
     pub label: Option<&'a str>,
 }
 
-impl Refusal<'_> {
-    /// The line that a program prints before it gives up, with its newline.
-    pub fn line(&self, heap: Global) -> Result<String, AllocError>
-        ensures { IfOk result (λ s. string_bytes s ≡ refusal_line self.now) }
-    {
-        let number = self.fault.number;
-        let word = self.fault.word;
-        let layer = layer_name(self.fault.layer);
+/// What a program prints before it gives up, without the newline.
+impl fmt::Display for Refusal<'_> {
+    ghost output = { λ r. Some (refusal_words r.fault (label_text r.label)) };
+
+    fn fmt<W: fmt::Write>(&self, f: &mut fmt::Formatter<W>) -> fmt::Result {
         let label = self.label.unwrap_or("-");
-        format!(in heap; "refused {number} word {word} layer {layer} label {label}\n")
+        write!(f, "{} label {label}", self.fault)
     }
 }
 
-fn layer_name(layer: Layer) -> &'static str
-    ensures { result.now ≡ layer_name layer }
-{
-    match layer {
-        Layer::Words => "words",
-        Layer::Grading => "grading",
-        Layer::Survey => "survey",
-    }
-}
+impl Error for Refusal<'_> {}

@@ -19,11 +19,8 @@ pub enum Token<'a, R> {
 pub struct Site<R> {
     /// The number of its site word.
     pub word: usize,
-    pub x: u16,
-    pub y: u16,
-    pub z: u16,
-    /// 0 where the file has no penalty word for it.
-    pub penalty: u32,
+    /// Its place and its penalty, which is 0 where the file has no penalty word for it.
+    pub site: survey::site::Site,
     pub reading: R,
 }
 
@@ -35,8 +32,7 @@ impl<'a, R> Token<'a, R> {
     {
         match self {
             Token::Site(_) => 1,
-            Token::Label { .. } => 0,
-            Token::End { .. } => 0,
+            Token::Label { .. } | Token::End { .. } => 0,
         }
     }
 
@@ -44,11 +40,7 @@ impl<'a, R> Token<'a, R> {
     pub fn is_end(&self) -> bool
         ensures { result ≡ is_end (entry self.now) }
     {
-        match self {
-            Token::End { .. } => true,
-            Token::Label { .. } => false,
-            Token::Site(_) => false,
-        }
+        matches!(self, Token::End { .. })
     }
 
     /// The last label after the token, where `before` was the last one before it.
@@ -57,8 +49,7 @@ impl<'a, R> Token<'a, R> {
     {
         match self {
             Token::Label { text, .. } => Some(*text),
-            Token::Site(_) => before,
-            Token::End { .. } => before,
+            Token::Site(_) | Token::End { .. } => before,
         }
     }
 }

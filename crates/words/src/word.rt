@@ -6,6 +6,7 @@ ghost use Rattle.words.specs.Word.{tagged, word_at, word_of};
 #[derive(Clone, Copy, Debug)]
 pub enum Word {
     /// A site's place.
+    // Three numbers and no `Place`: a word says nothing of a survey.
     Site { x: u16, y: u16, z: u16 },
     /// The penalty of the site before it.
     Penalty(u32),
@@ -17,11 +18,11 @@ pub enum Word {
     End { sites: u32 },
 }
 
-impl Word {
-    /// The word that 32 bits stand for. Any bits stand for one.
-    pub fn from_bits(bits: u32) -> Word
-        ensures { result ≡ word_of bits }
-    {
+/// The word that 32 bits stand for. Any bits stand for one.
+impl From<u32> for Word {
+    ghost from_gives = { λ bits word. word ≡ word_of bits };
+
+    fn from(bits: u32) -> Word {
         let low = bits & 0x3fff_ffff;
         match bits >> 30 {
             0 => Word::Site {
@@ -51,10 +52,8 @@ fn with_tag(tag: u8, value: u32) -> Word
 pub fn word_at(bytes: &[u8], word: usize) -> Option<Word>
     ensures { result ≡ word_at bytes.now word }
 {
-    if word >= bytes.len() / 4 {
-        return None;
-    }
-    let i = 4 * word;
-    let bits = u32::from_be_bytes([bytes[i], bytes[i + 1], bytes[i + 2], bytes[i + 3]]);
-    Some(Word::from_bits(bits))
+    let (words, _) = bytes.as_chunks::<4>();
+    words
+        .get(word)
+        .map(|bits| Word::from(u32::from_be_bytes(*bits)))
 }

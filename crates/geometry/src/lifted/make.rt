@@ -10,6 +10,7 @@ impl LiftedPoint {
     pub fn new(point: Point, lift: u32) -> Option<LiftedPoint>
         ensures { Raised point lift result }
     {
+        // `then` is no plainer: its closure would have to be told again that the lift is within the limit.
         if lift > HIGHEST {
             return None;
         }

@@ -2,17 +2,17 @@ ghost use Rattle.std.specs.Prelude.{◌≡◌, ◌≤◌, unsigned_abs};
 ghost use Rattle.geometry.specs.Limits.{Short, Small};
 ghost use Rattle.geometry.specs.Offsets.{MinorsOf, Between, expansion, minor as minor_of, rows as rows_of};
 
-use super::{Minors, Offset};
+use super::{Minors, Offset, Row};
 use crate::point::Point;
 
 /// The way from `a` to `b`.
 pub fn offset(a: &Point, b: &Point) -> Offset
     ensures { Between a.now b.now result }
 {
-    Offset {
-        x: b.x as i64 - a.x as i64,
-        y: b.y as i64 - a.y as i64,
-        z: b.z as i64 - a.z as i64,
+    Row {
+        x: i64::from(b.x) - i64::from(a.x),
+        y: i64::from(b.y) - i64::from(a.y),
+        z: i64::from(b.z) - i64::from(a.z),
     }
 }
 
@@ -29,7 +29,7 @@ fn minor(a: i64, b: i64, c: i64, d: i64) -> i64
 fn minors(v: &Offset, w: &Offset) -> Minors
     ensures { MinorsOf v.now w.now result }
 {
-    Minors {
+    Row {
         x: minor(v.y, v.z, w.y, w.z),
         y: minor(v.x, v.z, w.x, w.z),
         z: minor(v.x, v.y, w.x, w.y),
@@ -45,6 +45,7 @@ fn expanded(u: &Offset, m: &Minors) -> i64
 }
 
 /// The determinant whose rows are the three ways.
+#[tactic(auto, unfolding(crate::specs::Sides::det))]
 pub fn determinant(u: &Offset, v: &Offset, w: &Offset) -> i64
     ensures is { result ≡ rows_of u.now v.now w.now }
     ensures size { unsigned_abs result ≤ 100663296000 }

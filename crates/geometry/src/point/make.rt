@@ -8,10 +8,7 @@ impl Point {
     pub fn new(x: u16, y: u16, z: u16, penalty: u32) -> Option<Point>
         ensures { Made (record { x = x; y = y; z = z; penalty = penalty }) result }
     {
-        if x as u32 + y as u32 + z as u32 > REACH {
-            return None;
-        }
-        if penalty > HEAVIEST {
+        if u32::from(x) + u32::from(y) + u32::from(z) > REACH || penalty > HEAVIEST {
             return None;
         }
         Some(Point { x, y, z, penalty })

@@ -1,8 +1,10 @@
-ghost use Rattle.std.specs.Prelude.{◌≡◌, T};
+ghost use Rattle.std.specs.Prelude.{◌≡◌, ◌↔◌, IsTrue, Some, codes};
 ghost use Rattle.geometry.specs.Limits.{Stretch};
 ghost use Rattle.geometry.specs.StretchedLift.{Made, refusal};
 
 use super::{StretchOutOfRange, Stretched};
+use std::error::Error;
+use std::fmt;
 
 impl StretchOutOfRange {
     /// The number of this refusal.
@@ -13,12 +15,21 @@ impl StretchOutOfRange {
     }
 }
 
+impl fmt::Display for StretchOutOfRange {
+    ghost output = { λ _. Some (codes "a stretch is not 1, 2 or 3") };
+
+    fn fmt<W: fmt::Write>(&self, f: &mut fmt::Formatter<W>) -> fmt::Result {
+        f.write_str("a stretch is not 1, 2 or 3")
+    }
+}
+
+impl Error for StretchOutOfRange {}
+
 /// Whether a number can be a stretch.
 fn is_stretch(n: u32) -> bool
-    ensures only { T result → Stretch n }
-    ensures each { Stretch n → T result }
+    ensures { IsTrue result ↔ Stretch n }
 {
-    1 <= n && n <= 3
+    (1..=3).contains(&n)
 }
 
 impl Stretched {

@@ -1,17 +1,16 @@
 ghost use Rattle.std.specs.Prelude.{◌≡◌};
 ghost use Rattle.survey.specs.Resumes.{CountsOf, possible};
 
-use super::Counts;
+use super::{Counts, MOST_POINTS, MOST_TETS};
 
 /// Whether a survey can have these counts.
 fn are_possible(points: usize, tets: usize, point_records: usize, tet_records: usize) -> bool
     ensures { result ≡ possible points tets point_records tet_records }
 {
-    4 <= points
-        && points <= point_records
-        && point_records <= 1024
+    (4..=point_records).contains(&points)
+        && point_records <= MOST_POINTS
         && tets <= tet_records
-        && tet_records <= 16_384
+        && tet_records <= MOST_TETS
 }
 
 impl Counts {

@@ -1,40 +1,36 @@
 ghost use Rattle.std.specs.Prelude.{◌≡◌, ◌≤◌, length};
 ghost use Rattle.survey.specs.Creates.{Created, fit_points, fit_tets, with_corners};
+ghost use Rattle.survey.specs.Tables.{SameTables, lent};
 ghost use Rattle.survey.specs.Upheld.{Starts};
 
 use super::Open;
 use crate::corner::CORNERS;
-use crate::counts::Counts;
+use crate::counts::{Counts, MOST_POINTS, MOST_TETS};
 use crate::record::PointRecord;
 use crate::refusal::Refusal;
+use crate::tables::Tables;
 use geometry::measure::Measure;
 use grading::grading::Grading;
-use mesh::record::{TetRecord, big_record};
+use mesh::record::big_record;
 
 /// The fewest point records: the corners and one site.
 const FEWEST_POINTS: usize = 5;
 
-/// The most point records.
-const MOST_POINTS: usize = 1024;
-
 /// The fewest tetrahedron records: the big one's.
 const FEWEST_TETS: usize = 1;
-
-/// The most tetrahedron records.
-const MOST_TETS: usize = 16_384;
 
 /// Whether a point table has 5 to 1,024 records, and the reading table as many.
 fn can_hold_points(points: usize, readings: usize) -> bool
     ensures { result ≡ fit_points points readings }
 {
-    FEWEST_POINTS <= points && points <= MOST_POINTS && readings == points
+    (FEWEST_POINTS..=MOST_POINTS).contains(&points) && readings == points
 }
 
 /// Whether a tetrahedron table has 1 to 16,384 records.
 fn can_hold_tets(tets: usize) -> bool
     ensures { result ≡ fit_tets tets }
 {
-    FEWEST_TETS <= tets && tets <= MOST_TETS
+    (FEWEST_TETS..=MOST_TETS).contains(&tets)
 }
 
 /// Writes the corners into the first four records.
@@ -55,26 +51,25 @@ impl<M: Measure + Drop, G: Grading + Drop> Open<M, G> {
     pub fn create(
         measure: M,
         grading: G,
-        points: &mut [PointRecord],
-        readings: &mut [G::Reading],
-        tets: &mut [TetRecord],
+        tables: &mut Tables<'_, G::Reading>,
     ) -> Result<Open<M, G>, Refusal>
-        ensures creates { Created measure grading points.old points.new readings.old readings.new tets.old tets.new result }
-        ensures starts { Starts M.Measure.lifts G.Grading.admitted G.Grading.classed (record { points = points.new; readings = readings.new; tets = tets.new }) result }
+        ensures creates { Created measure grading (lent tables.old) (lent tables.new) result }
+        ensures starts { Starts M.Measure.lifts G.Grading.admitted G.Grading.classed (lent tables.new) result }
+        ensures same_tables { SameTables tables.old tables.new }
     {
-        if !can_hold_points(points.len(), readings.len()) {
+        if !can_hold_points(tables.points.len(), tables.readings.len()) {
             return Err(Refusal::PointTable);
         }
-        if !can_hold_tets(tets.len()) {
+        if !can_hold_tets(tables.tets.len()) {
             return Err(Refusal::TetTable);
         }
-        write_corners(points);
-        tets[0] = big_record();
+        write_corners(tables.points);
+        tables.tets[0] = big_record();
         let counts = Counts {
             points: CORNERS.len(),
             tets: 1,
-            point_records: points.len(),
-            tet_records: tets.len(),
+            point_records: tables.points.len(),
+            tet_records: tables.tets.len(),
         };
         Ok(Open {
             counts,

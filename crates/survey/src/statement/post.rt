@@ -19,14 +19,7 @@ impl Statement {
     pub fn new() -> Statement
         ensures { result ≡ blank_statement }
     {
-        let blank = Line {
-            tetrahedra: 0,
-            units: 0,
-        };
-        Statement {
-            lines: [blank; 8],
-            margin: 0,
-        }
+        Statement::default()
     }
 
     /// Posts a tetrahedron to the line of its class. The other seven lines keep their figures.

@@ -4,12 +4,13 @@ ghost use Rattle.words.specs.Look.{content, due, found, reading_at, site_from};
 ghost use Rattle.words.specs.Reader.{Next, well_sized};
 ghost use Rattle.words.specs.Word.{word_at};
 
-use crate::fault::Fault;
+use crate::fault::{Fault, Problem};
 use crate::label::label_text;
-use crate::reader::Reader;
+use crate::reader::{LONGEST, Reader};
 use crate::token::{Site, Token};
 use crate::word::{Word, word_at};
 use grading::grading::Grading;
+use survey::site::Place;
 
 impl<'a> Reader<'a> {
     /// A reader at the start of a file.
@@ -32,7 +33,7 @@ impl<'a> Reader<'a> {
         ensures bytes { self.new.bytes.now ≡ self.old.bytes.now }
     {
         if !is_well_sized(self.bytes.len()) {
-            return Err(Fault::wrong_length());
+            return Err(Problem::WrongLength.at(0));
         }
         if self.ended {
             return Ok(None);
@@ -45,11 +46,11 @@ impl<'a> Reader<'a> {
     }
 }
 
-/// A file has 1 to 8,192 whole words.
+/// A file is whole words, and at least one.
 fn is_well_sized(bytes: usize) -> bool
     ensures { result ≡ well_sized bytes }
 {
-    bytes % 4 == 0 && bytes >= 4 && bytes <= 32768
+    bytes.is_multiple_of(4) && (4..=LONGEST).contains(&bytes)
 }
 
 /// The token that begins at a word, of `sites` sites before it, and the word after it.
@@ -62,46 +63,40 @@ fn look<'a, G: Grading>(
     ensures { content result ≡ found (G.Grading.decoded grading.now) bytes.now word sites (word_at bytes.now word) }
 {
     match word_at(bytes, word) {
-        Some(Word::Site { x, y, z }) => site_at(bytes, word, x, y, z, grading),
-        Some(Word::Label { length }) => match label_text(&bytes[4 * (word + 1)..], length) {
-            Some(text) => Ok((
-                Token::Label { word, text },
-                word + 1 + (length as usize + 3) / 4,
-            )),
-            None => Err(Fault::malformed_label(word)),
-        },
+        Some(Word::Site { x, y, z }) => site_at(bytes, word, Place { x, y, z }, grading),
+        Some(Word::Label { length }) => {
+            let rest = &bytes[4 * (word + 1)..];
+            let text = label_text(rest, length).ok_or(Problem::MalformedLabel.at(word))?;
+            let after = word + 1 + (length as usize).div_ceil(4);
+            Ok((Token::Label { word, text }, after))
+        }
         Some(Word::End { sites: count }) => {
             if word + 1 == bytes.len() / 4 && count as usize == sites {
                 Ok((Token::End { sites: count }, word + 1))
             } else {
-                Err(Fault::wrong_end(word))
+                Err(Problem::WrongEnd.at(word))
             }
         }
-        _ => Err(Fault::misplaced(word)),
+        _ => Err(Problem::Misplaced.at(word)),
     }
 }
 
-/// The site at `x`, `y`, `z` whose site word is number `word`.
+/// The site at a place whose site word is number `word`.
 fn site_at<'a, G: Grading>(
     bytes: &'a [u8],
     word: usize,
-    x: u16,
-    y: u16,
-    z: u16,
+    place: Place,
     grading: &G,
 ) -> Result<(Token<'a, G::Reading>, usize), Fault>
     requires { word < 2 ^ 62 }
-    ensures { content result ≡ site_from (G.Grading.decoded grading.now) bytes.now word x y z (due word (word_at bytes.now (word + 1))) }
+    ensures { content result ≡ site_from (G.Grading.decoded grading.now) bytes.now word place.x place.y place.z (due word (word_at bytes.now (word + 1))) }
 {
     let (penalty, at) = after_site(bytes, word);
     let reading = reading_at(bytes, at, grading)?;
     Ok((
         Token::Site(Site {
             word,
-            x,
-            y,
-            z,
-            penalty,
+            site: survey::site::Site { place, penalty },
             reading,
         }),
         at + 1,
@@ -125,10 +120,9 @@ fn reading_at<G: Grading>(bytes: &[u8], word: usize, grading: &G) -> Result<G::R
     ensures { result ≡ reading_at (G.Grading.decoded grading.now) word (word_at bytes.now word) }
 {
     let Some(Word::Reading { tag, value }) = word_at(bytes, word) else {
-        return Err(Fault::misplaced(word));
+        return Err(Problem::Misplaced.at(word));
     };
-    match grading.decode(tag, value) {
-        Some(reading) => Ok(reading),
-        None => Err(Fault::unknown_reading(word)),
-    }
+    grading
+        .decode(tag, value)
+        .ok_or(Problem::UnknownReading.at(word))
 }

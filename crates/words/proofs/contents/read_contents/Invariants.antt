@@ -5,8 +5,8 @@ use Rattle.words.specs.Word.{words}
 use Rattle.words.proofs.Files.{Sofar}
 use Rattle.words.proofs.contents.read_contents.Given as goal
 
-abbrev pub invariant-loop-next : goal.invariant-loop-next
-invariant-loop-next g l = Sofar (g.G.Grading.decoded l.grading) l.bytes l.reader (map entry (vec_items l.tokens)) (label_text l.label)
+abbrev pub invariant-loop-token : goal.invariant-loop-token
+invariant-loop-token g l = Sofar (g.G.Grading.decoded l.grading) l.bytes l.reader (map entry (vec_items l.tokens)) (label_text l.label)
 
-abbrev pub decreases-loop-next : goal.decreases-loop-next
-decreases-loop-next g l = words l.bytes - l.reader.word
+abbrev pub decreases-loop-token : goal.decreases-loop-token
+decreases-loop-token g l = words l.bytes - l.reader.word

@@ -1,9 +1,0 @@
-use Rattle.std.proofs.Common.{arith}
-use Rattle.geometry.specs.Points.{spot}
-use Rattle.geometry.specs.Measures.{plain_low}
-use Rattle.geometry.proofs.weighted.WeightedMeasure.lift.Goals as goal
-
-pub overflow_add-result : goal.overflow_add-result
-overflow_add-result c =
-    let p = c.args.p.now in
-    omega (arith, plain_low (spot p) p.near)
