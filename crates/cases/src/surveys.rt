@@ -42,6 +42,7 @@ fn a_cube_of_eight_sites_has_its_six_thousand_units(rt: HostRuntime) -> Result<(
     let mut t = blank();
     let mut survey = created(&mut t)?;
     four_sites(&rt, &mut survey, &mut t);
+    // Each of the others by itself, as the test was first written.
     assert_eq!(rt; added(&mut survey, &mut t, 110, 110, 100), Ok(8));
     assert_eq!(rt; added(&mut survey, &mut t, 110, 100, 110), Ok(9));
     assert_eq!(rt; added(&mut survey, &mut t, 100, 110, 110), Ok(10));

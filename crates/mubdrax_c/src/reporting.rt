@@ -23,6 +23,7 @@ const NO_ROOM: u32 = 2;
 const NO_MEMORY: u32 = 3;
 
 /// Writes the bytes to the front of the room, if they fit.
+// A flag, since it is the status 0 or 1 that C reads.
 fn write_text(bytes: &[u8], refused: bool, room: &mut [u8]) -> TextAnswer
     ensures { Wrote bytes.now refused room.old room.new result }
 {

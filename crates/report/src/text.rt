@@ -5,6 +5,8 @@ ghost use Rattle.report.specs.Text.{class_lines, statement_text};
 use std::alloc::{AllocError, Global};
 use survey::statement::{Line, Statement};
 
+// No `Display` of a statement: these lines are the program's format, and not how a statement prints.
+
 /// A line for each class, with its number, its tetrahedra and their units, and behind them the margin.
 pub fn statement_text(heap: Global, statement: &Statement) -> Result<String, AllocError>
     ensures { IfOk result (λ s. string_bytes s ≡ statement_text statement.now) }

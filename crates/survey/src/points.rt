@@ -26,6 +26,7 @@ impl<'a> Points<'a> {
     }
 
     /// The point of a number.
+    // No `TryFrom` of a record: here it is known that the record gives a point.
     pub(crate) fn point(&self, number: u16) -> Point
         requires { number < count self.now }
         ensures { spot result ≡ numbered (spots_in self.now) number }

@@ -21,6 +21,8 @@ pub(crate) struct Prepared<'a> {
     pub(crate) end: usize,
 }
 
+// Measure, records and site are three, here and in what is called: each is another's to lend.
+
 /// Asks about the hole that a site makes and, when every answer is yes, writes the used records
 /// after the add to the front of `out` and lends them. The site's number is the number of points so far.
 pub(crate) fn prepare<'a, M: Measure>(

@@ -38,6 +38,7 @@ pub enum Refusal {
 
 impl Refusal {
     /// The number by which the rules name the refusal.
+    // By cases: one of them holds a point, so no discriminant can be cast.
     pub fn number(&self) -> u8
         ensures { result ≡ number_of self.now }
     {

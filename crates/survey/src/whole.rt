@@ -31,6 +31,7 @@ impl<'a> Whole<'a> {
     ghost use Rattle.survey.specs.Wholes.{WholeOf};
 
     /// The used records, or the refusal of tables that are not whole.
+    // Counts and tables are two, here and below: the survey keeps the ones, and the caller lends the others.
     pub(crate) fn of<R>(counts: &Counts, tables: &TablesRef<'a, R>) -> Result<Whole<'a>, Refusal>
         ensures used { WholeOf counts.now tables.now.points.now (length tables.now.readings.now) tables.now.tets.now result }
         ensures test { is_ok result ≡ whole_tables counts.now tables.now.points.now (length tables.now.readings.now) tables.now.tets.now }

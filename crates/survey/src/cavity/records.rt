@@ -12,7 +12,7 @@ impl Plan<'_, '_> {
         requires { self.now.kept ≤ length out.old }
         ensures { ForConflict self.now (λ conflict. take self.now.kept out.new ≡ map (kept_record conflict (records self.now)) (kept_rows conflict (records self.now))) }
     {
-        // By number: a kept record goes where its number says.
+        // By number: after a loop over the records zipped with the kept ones nothing would be known of the records.
         for (k, dropped) in self.shell.cavity.dropped.iter().enumerate() {
             let kept = !*dropped;
             if kept {

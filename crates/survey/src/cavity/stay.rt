@@ -20,6 +20,7 @@ fn mark(marks: &mut [bool], points: &[u16])
 }
 
 /// The first of the first `count` marks that is not set.
+// The count, and no shorter slice: what is known of the marks is told of all of them.
 fn first_unmarked(marks: &[bool], count: usize) -> Option<u16>
     requires { (count ≤ length marks.now) × (count ≤ 1024) }
     ensures { Failing (gone marks.now) count result }

@@ -3,6 +3,8 @@ ghost use Rattle.survey.specs.Posting.{Roomy, Sized, SizedSum, blank_line, blank
 
 use super::{Line, Statement};
 
+// That a Side is one of a tetrahedron is a bound of one number: a type for it would be opened again at each sum.
+
 impl Line {
     /// Counts one tetrahedron with this Side.
     fn post(&mut self, units: i64)

@@ -53,6 +53,8 @@ fn is_well_sized(bytes: usize) -> bool
     bytes.is_multiple_of(4) && (4..=LONGEST).contains(&bytes)
 }
 
+// From here on a file and a word, and no reader: words ahead are looked at without moving one.
+
 /// The token that begins at a word, of `sites` sites before it, and the word after it.
 fn look<'a, G: Grading>(
     bytes: &'a [u8],
