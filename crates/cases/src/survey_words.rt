@@ -6,6 +6,8 @@ use std::process::Abort;
 use std::test::Fail;
 use survey::site::Place;
 use words::contents::read_contents;
+use words::fault::{Fault, Layer, Problem};
+use words::refusal::Refusal;
 use words::token::Token;
 
 const PENALTY: u32 = 0x7000_05dc;
@@ -20,7 +22,7 @@ const LABEL: u32 = 0x8000_0000;
 fn outcome(heap: Global, bytes: &[u8]) -> Result<String, AllocError> {
     let contents = read_contents(heap, bytes, &Assay)?;
     match contents.refusal {
-        Some(refusal) => format!(in heap; "{refusal}\n"),
+        Some(refusal) => refusal.line(heap),
         None => {
             let tokens = contents.tokens.len();
             format!(in heap; "{tokens} tokens\n")
@@ -43,6 +45,21 @@ fn wrong_lengths_are_20(rt: HostRuntime) -> Result<(), Fail> {
     assert_eq!(rt; outcome(heap, &[0xc0, 0])?.as_str(), line);
     assert_eq!(rt; outcome(heap, &[0xc0, 0, 0, 0, 0])?.as_str(), line);
     check_words(&rt, heap, &[END], "1 tokens\n")
+}
+
+#[test]
+fn a_rule_that_no_file_breaks_has_a_line_too(rt: HostRuntime) -> Result<(), Fail> {
+    let problem = Problem::Other {
+        number: 14,
+        layer: Layer::Survey,
+    };
+    let refusal = Refusal {
+        fault: Fault { word: 7, problem },
+        label: Some("BH A1"),
+    };
+    let line = "refused 14 word 7 layer survey label BH A1\n";
+    assert_eq!(rt; refusal.line(rt.alloc())?.as_str(), line);
+    Ok(())
 }
 
 #[test]

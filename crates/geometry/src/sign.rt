@@ -6,9 +6,9 @@ use std::cmp::Ordering;
 /// Whether a number is below, at or above zero.
 #[derive(Clone, Copy, PartialEq, Eq, PartialOrd, Ord, Hash, Debug)]
 pub enum Sign {
-    Negative = -1,
-    Zero = 0,
-    Positive = 1,
+    Negative,
+    Zero,
+    Positive,
 }
 
 impl From<i64> for Sign {
@@ -28,6 +28,10 @@ impl Sign {
     pub fn number(self) -> i8
         ensures { result ≡ number_of self }
     {
-        self as i8
+        match self {
+            Sign::Negative => -1,
+            Sign::Zero => 0,
+            Sign::Positive => 1,
+        }
     }
 }

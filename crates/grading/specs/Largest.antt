@@ -14,6 +14,11 @@ use Rattle.std.proofs.lemmas.Bool.Decides.{nat_tests}
 use Rattle.grading.specs.declared.assay.Reading.{Reading}
 use Rattle.grading.specs.Assay.{limits, counted, reached, assay_class}
 
+-- a test that holds is true
+passes : (b : Bool) → T b → b ≡ true
+passes true t = refl
+passes false t = absurd t
+
 -- ---- a positive limit
 
 reaches_infinity : (l : Float) → T (positive l) → T (le l (inf false))

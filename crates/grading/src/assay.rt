@@ -6,6 +6,7 @@ ghost use Rattle.grading.specs.Assay.{admitted_amount, admitted_reading, amount,
 ghost use Rattle.grading.specs.Largest.{front_swap, middle_swap, back_swap};
 ghost use Rattle.std.proofs.Common.{rules};
 
+use crate::counts::one_more;
 use crate::grading::Grading;
 
 /// What the laboratory says of one sample.
@@ -113,7 +114,10 @@ fn limits_reached(limits: &[f64], amount: f64) -> u8
     requires { length limits.now < 256 }
     ensures { result ≡ reached limits.now amount }
 {
-    limits.iter().filter(|limit| **limit <= amount).count() as u8
+    // No `filter` and `count`: that took half as long again.
+    limits
+        .iter()
+        .fold(0, |count, limit| one_more(count, *limit <= amount))
 }
 
 /// Survey words give amounts in quarters of a milligram per kilogram.

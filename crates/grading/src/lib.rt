@@ -3,5 +3,6 @@
 #![tactic(auto)]
 
 pub mod assay;
+mod counts;
 pub mod grading;
 pub mod soil;

@@ -5,6 +5,7 @@ ghost use Rattle.std.specs.List.{fold, range_with_len};
 ghost use Rattle.std.proofs.Common.{arith};
 ghost use Rattle.grading.specs.Votes.{winner_le, front_swap, middle_swap, back_swap};
 
+use crate::counts::one_more;
 use crate::grading::Grading;
 use std::error::Error;
 use std::fmt;
@@ -118,8 +119,11 @@ fn more_frequent(leader: u8, code: u8, codes: &[u8; 4]) -> u8
 }
 
 /// How many of the four have this code.
-fn count_of(code: u8, codes: &[u8; 4]) -> usize
+fn count_of(code: u8, codes: &[u8; 4]) -> u8
     ensures { result ≡ votes code codes.now }
 {
-    codes.iter().filter(|other| **other == code).count()
+    // No `filter` and `count`: that took four times as long.
+    codes
+        .iter()
+        .fold(0, |count, other| one_more(count, *other == code))
 }

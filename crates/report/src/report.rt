@@ -53,7 +53,7 @@ fn printed(heap: Global, outcome: &Result<Statement, Refusal<'_>>) -> Result<Str
 {
     match outcome {
         Ok(statement) => Ok(statement_text(heap, statement)?),
-        Err(refusal) => Err(ReportError::Refused(format!(in heap; "{refusal}\n")?)),
+        Err(refusal) => Err(ReportError::Refused(refusal.line(heap)?)),
     }
 }
 

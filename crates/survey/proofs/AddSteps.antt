@@ -90,16 +90,16 @@ module _ {R : Type 0} (L : Lift) (c : Counts) (t : Lent R) (s : Spot) (a : Bool)
       (num ∙ ap (λ n. 3 + n) (sym front), omega (arith, front, low), names_none drop_by used c.points e (omega (arith, num, low)))
 
   module _ (sure : first_no of_site ≡ 6) where
-    joined : first_no of_all ≡ 6 + first_no of_hole
+    pub joined : first_no of_all ≡ 6 + first_no of_hole
     joined = first_no_back of_site of_hole sure
 
     pub whole : WholeTables c t.points readings t.tets
     whole = (tables_tell c t.points readings t.tets).0 (six_yes _ _ _ _ _ _ sure).0
 
-    room_for_one : c.points < c.point_records
+    pub room_for_one : c.points < c.point_records
     room_for_one = ltb-true c.points c.point_records (six_yes _ _ _ _ _ _ sure).1
 
-    ready : (p : Prepared) → Filled drop_by used c.points c.tet_records p → Ready L c t.points readings t.tets s a p
+    pub ready : (p : Prepared) → Filled drop_by used c.points c.tet_records p → Ready L c t.points readings t.tets s a p
     ready p f = record {
       asked = joined ∙ ap (λ n. 6 + n) f.asked;
       point_place = omega (arith, room_for_one, whole.point_table);

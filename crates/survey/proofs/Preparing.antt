@@ -113,7 +113,7 @@ module _ (conflict : Tet → Bool) (p : Plan) (n room : ℕ) (flagged : Flagged 
   faces_count : length p.shell.faces.now ≡ length (shell_faces conflict (records p))
   faces_count = shell_length (records p) (flags p) p.shell.faces.now p.shell.complete ∙ shell_count conflict (records p) (flags p) flagged p.shell.cavity.ready
 
-  fitting : length (records p) + length (shell_faces conflict (records p)) ≤ room
+  pub fitting : length (records p) + length (shell_faces conflict (records p)) ≤ room
   fitting = leb-true _ room (second_yes _ _ _ _ yes)
 
   pub filled : (q : Prepared) → q.records.now ≡ records_after conflict (records p) n → length q.records.now ≡ p.kept + length p.shell.faces.now

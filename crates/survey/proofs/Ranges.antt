@@ -9,7 +9,7 @@ use Rattle.std.specs.List.{AllWithin, HoldsAt, find, list_all, range_with_len}
 use Rattle.algebra.specs.Lists.{all}
 use Rattle.algebra.proofs.Sums.{sum_by-map}
 use Rattle.mesh.specs.Added.{rank}
-use Rattle.mesh.proofs.Ranks.{rank_more}
+use Rattle.mesh.proofs.Ranks.{every_more, rank_more}
 use Rattle.mesh.specs.Records.{every}
 
 -- one number more
@@ -31,7 +31,10 @@ every_listed p (suc n) = ap (list_all p) (range_up n) ∙ list_all-append p (ran
 pub every_tells : (p : ℕ → Bool) (n : ℕ) → Decides (every p n) ((k : ℕ) → k < n → p k ≡ true)
 every_tells p n = Decides-below_and p (λ k. p k ≡ true) (every p) (λ k. (λ e. e, λ e. e)) refl (λ _. refl) n
 
--- one that fails
+-- one more that passes, and one that fails
+pub every_yes : (p : ℕ → Bool) (k : ℕ) → every p k ≡ true → p k ≡ true → every p (k + 1) ≡ true
+every_yes p k h e = every_more p k ∙ and_from (p k) (every p k) e h
+
 pub every_fails : (p : ℕ → Bool) (n k : ℕ) → k < n → p k ≡ false → every p n ≡ false
 every_fails p n k l e = elim (cases_Bool (every p n)) [
   | inl all ↦ absurd (both_ways (p k) e ((every_tells p n).0 all k l))

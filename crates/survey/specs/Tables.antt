@@ -32,6 +32,10 @@ shown t = record { points = t.points.now; readings = t.readings.now; tets = t.te
 abbrev pub SameTables : {R : Type 0} → (t t' : Tables R) → Type 0
 SameTables t t' = (t'.points.ghost_name ≡ t.points.ghost_name) × (t'.readings.ghost_name ≡ t.readings.ghost_name) × (t'.tets.ghost_name ≡ t.tets.ghost_name)
 
+-- it leaves the lengths of the tables too
+abbrev pub SameLengths : {R : Type 0} → (t t' : Tables R) → Type 0
+SameLengths t t' = (length t'.points.now ≡ length t.points.now) × (length t'.readings.now ≡ length t.readings.now) × (length t'.tets.now ≡ length t.tets.now)
+
 -- the records that a survey uses
 abbrev pub used_points : Counts → List PointRecord → List PointRecord
 used_points c ps = take c.points ps

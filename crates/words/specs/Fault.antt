@@ -6,7 +6,7 @@ use Rattle.words.specs.declared.fault.Fault.{Fault}
 use Rattle.words.specs.declared.fault.Layer.{Layer}
 use Rattle.words.specs.declared.fault.Layer.TheVariants.{Words, Grading, Survey}
 use Rattle.words.specs.declared.fault.Problem.{Problem}
-use Rattle.words.specs.declared.fault.Problem.TheVariants.{WrongLength, Misplaced, MalformedLabel, UnknownReading, WrongEnd, Refused}
+use Rattle.words.specs.declared.fault.Problem.TheVariants.{WrongLength, Misplaced, MalformedLabel, UnknownReading, WrongEnd, Refused, Other}
 
 -- the number by which the rules name it
 abbrev pub number_of : Problem → ℕ
@@ -16,6 +16,7 @@ number_of MalformedLabel = 22
 number_of UnknownReading = 23
 number_of WrongEnd = 24
 number_of (Refused e) = refusal_number e
+number_of (Other number layer) = number
 
 -- the part of the software that finds it
 abbrev pub layer_of : Problem → Layer
@@ -25,6 +26,7 @@ layer_of MalformedLabel = Words
 layer_of UnknownReading = Grading
 layer_of WrongEnd = Words
 layer_of (Refused e) = Survey
+layer_of (Other number layer) = layer
 
 abbrev pub layer_name : Layer → List ℕ
 layer_name Words = codes "words"

@@ -41,6 +41,9 @@ pub enum Problem {
     WrongEnd,
     /// The survey refused the site at this site word. The number is that of the survey's refusal.
     Refused(Refusal),
+    /// A rule that no file of words breaks, as 14 of a stretched measure: its number, and who says so. A caller
+    /// reports by it what it finds itself, in the words of a file's fault.
+    Other { number: u8, layer: Layer },
 }
 
 impl Problem {
@@ -75,6 +78,7 @@ impl Fault {
             Problem::UnknownReading => 23,
             Problem::WrongEnd => 24,
             Problem::Refused(refusal) => refusal.number(),
+            Problem::Other { number, .. } => *number,
         }
     }
 
@@ -85,7 +89,11 @@ impl Fault {
         match self.problem {
             Problem::UnknownReading => Layer::Grading,
             Problem::Refused(_) => Layer::Survey,
-            _ => Layer::Words,
+            Problem::Other { layer, .. } => layer,
+            Problem::WrongLength
+            | Problem::Misplaced
+            | Problem::MalformedLabel
+            | Problem::WrongEnd => Layer::Words,
         }
     }
 }

@@ -1,7 +1,7 @@
 //! Feeding a survey from a file.
 ghost use Rattle.std.specs.Prelude.{◌≡◌, None};
 ghost use Rattle.words.specs.Contents.{label_text};
-ghost use Rattle.survey.specs.Tables.{SameTables, lent};
+ghost use Rattle.survey.specs.Tables.{SameLengths, SameTables, lent};
 ghost use Rattle.words.specs.Feed.{Added, FedOn, FedWords, outcome, store};
 
 use crate::fault::{Fault, Problem};
@@ -26,6 +26,7 @@ pub fn feed<'a, M: Measure + Drop, G: Grading + Drop>(
     ensures measure { survey.new.measure ≡ survey.old.measure }
     ensures grading { survey.new.grading ≡ survey.old.grading }
     ensures same_tables { SameTables tables.old tables.new }
+    ensures same_lengths { SameLengths tables.old tables.new }
 {
     let mut label = None;
     // No `map_err`: the checker learns nothing of a closure that puts the file's label into a value.
@@ -48,6 +49,7 @@ fn feed_words<'a, M: Measure + Drop, G: Grading + Drop>(
     ensures measure { survey.new.measure ≡ survey.old.measure }
     ensures grading { survey.new.grading ≡ survey.old.grading }
     ensures same_tables { SameTables tables.old tables.new }
+    ensures same_lengths { SameLengths tables.old tables.new }
 {
     let mut reader = Reader::new(file);
     while let Some(token) = reader.next(survey.grading())? {
@@ -69,6 +71,7 @@ fn add_site<M: Measure + Drop, G: Grading + Drop>(
     ensures measure { survey.new.measure ≡ survey.old.measure }
     ensures grading { survey.new.grading ≡ survey.old.grading }
     ensures same_tables { SameTables tables.old tables.new }
+    ensures same_lengths { SameLengths tables.old tables.new }
 {
     survey
         .add(tables, entry.site, entry.reading)

@@ -1,9 +1,10 @@
 //! Why a survey file was refused, for whoever has to mend it.
-ghost use Rattle.std.specs.Prelude.{Some};
+ghost use Rattle.std.specs.Prelude.{◌≡◌, IfOk, Some, string_bytes};
 ghost use Rattle.words.specs.Contents.{label_text};
-ghost use Rattle.words.specs.Refusal.{refusal_words};
+ghost use Rattle.words.specs.Refusal.{refusal_text, refusal_words};
 
 use crate::fault::Fault;
+use std::alloc::{AllocError, Global};
 use std::error::Error;
 use std::fmt;
 
@@ -25,3 +26,12 @@ impl fmt::Display for Refusal<'_> {
 }
 
 impl Error for Refusal<'_> {}
+
+impl Refusal<'_> {
+    /// The line that a program prints before it gives up, with its newline.
+    pub fn line(&self, heap: Global) -> Result<String, AllocError>
+        ensures { IfOk result (λ s. string_bytes s ≡ refusal_text self.now.fault (label_text self.now.label)) }
+    {
+        format!(in heap; "{self}\n")
+    }
+}

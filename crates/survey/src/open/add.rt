@@ -4,7 +4,7 @@ ghost use Rattle.mesh.specs.Surveys.{add as added};
 ghost use Rattle.survey.specs.Adds.{AddsTo};
 ghost use Rattle.survey.specs.Pasts.{add_told, opened};
 ghost use Rattle.survey.specs.Sites.{site_spot};
-ghost use Rattle.survey.specs.Tables.{SameTables, lent};
+ghost use Rattle.survey.specs.Tables.{SameLengths, SameTables, lent};
 ghost use Rattle.survey.specs.Upheld.{Continues};
 
 use super::Open;
@@ -33,6 +33,7 @@ impl<M: Measure + Drop, G: Grading + Drop> Open<M, G> {
         ensures measure { self.new.measure ≡ self.old.measure }
         ensures grading { self.new.grading ≡ self.old.grading }
         ensures same_tables { SameTables tables.old tables.new }
+        ensures same_lengths { SameLengths tables.old tables.new }
         ensures continues { Continues M.Measure.lifts G.Grading.admitted G.Grading.classed (opened self.old) (lent tables.old) (added (site_spot site) reading, add_told result) (opened self.new) (lent tables.new) }
     {
         let admitted = self.grading.admits(&reading);

@@ -1,6 +1,6 @@
 ghost use Rattle.std.specs.Prelude.{◌≡◌, ◌≤◌, length};
 ghost use Rattle.survey.specs.Creates.{Created, fit_points, fit_tets, with_corners};
-ghost use Rattle.survey.specs.Tables.{SameTables, lent};
+ghost use Rattle.survey.specs.Tables.{SameLengths, SameTables, lent};
 ghost use Rattle.survey.specs.Upheld.{Starts};
 
 use super::Open;
@@ -56,6 +56,7 @@ impl<M: Measure + Drop, G: Grading + Drop> Open<M, G> {
         ensures creates { Created measure grading (lent tables.old) (lent tables.new) result }
         ensures starts { Starts M.Measure.lifts G.Grading.admitted G.Grading.classed (lent tables.new) result }
         ensures same_tables { SameTables tables.old tables.new }
+        ensures same_lengths { SameLengths tables.old tables.new }
     {
         if !can_hold_points(tables.points.len(), tables.readings.len()) {
             return Err(Refusal::PointTable);

@@ -23,7 +23,7 @@ loop-token-preserved-in_ok-add_site g c =
     let told = c.in_ok-add_site.ensures in
     let adds = accepted_by g.M.Measure.lifts g.G.Grading.admitted _ _ _ _ _ _ _ inv.1 inv.2 _ told.added in
     let label = label_kept _ _ _ _ c.label_after.ensures c.in-Site.is in
-    (rw label (after_site _ _ _ _ _ _ _ _ inv.0 _ _ moved c.in_ok-token.ensures.bytes _ _ adds), told.measure ∙ inv.1, told.grading ∙ inv.2, search rules)
+    (rw label (after_site _ _ _ _ _ _ _ _ inv.0 _ _ moved c.in_ok-token.ensures.bytes _ _ adds), told.measure ∙ inv.1, told.grading ∙ inv.2, search rules, search rules)
 
 pub returns-in_err-add_site-clause-fed : goal.returns-in_err-add_site-clause-fed
 returns-in_err-add_site-clause-fed g c =
@@ -44,7 +44,7 @@ loop-token-preserved g c =
     let inv = c.loop-token.invariant in
     let moved = moved_by g.G.Grading.decoded _ _ (c.grading.ensures ∙ inv.2) _ _ _ _ c.in_ok-token.ensures.next c.in-Some.is in
     let other = after_other _ _ _ _ _ _ _ _ inv.0 _ _ (no_site _ c.in_default-token.not-Site) moved c.in_ok-token.ensures.bytes in
-    (rw c.label_after.ensures other, inv.1, inv.2, inv.3)
+    (rw c.label_after.ensures other, inv.1, inv.2, inv.3, inv.4)
 
 pub returns-clause-fed : goal.returns-clause-fed
 returns-clause-fed g c = fed_end _ _ _ _ _ _ _ _ c.loop-token.invariant.0 (next_ended _ _ _ _ c.in_ok-token.ensures.next c.in_default.is)

@@ -1,5 +1,5 @@
 use Rattle.std.proofs.Common.{◌≡◌, ◌-◌}
-use Rattle.survey.specs.Tables.{SameTables, lent}
+use Rattle.survey.specs.Tables.{SameLengths, SameTables, lent}
 use Rattle.words.specs.Contents.{label_text}
 use Rattle.words.specs.Feed.{store}
 use Rattle.words.specs.Word.{words}
@@ -13,7 +13,7 @@ invariant-loop-token g l =
     (store l.initial.survey (lent l.initial.tables))
     l.reader (label_text l.label)
     (store l.survey (lent l.tables))
-    × (l.survey.measure ≡ l.initial.survey.measure) × (l.survey.grading ≡ l.initial.survey.grading) × SameTables l.initial.tables l.tables
+    × (l.survey.measure ≡ l.initial.survey.measure) × (l.survey.grading ≡ l.initial.survey.grading) × SameTables l.initial.tables l.tables × SameLengths l.initial.tables l.tables
 
 abbrev pub decreases-loop-token : goal.decreases-loop-token
 decreases-loop-token g l = words l.file - l.reader.word

@@ -22,6 +22,7 @@ returns g c =
       measure = refl;
       grading = refl;
       same_tables = (refl, refl, refl);
+      same_lengths = search rules;
       continues = λ past ran.
           kept g.M.Measure.lifts g.G.Grading.admitted g.G.Grading.classed g.met.G.Grading.eight _ _ _
           (adds self _ _ _ site c.args.reading (Ok self.counts.points) ran done refl refl);
